@@ -47,10 +47,6 @@ pub(crate) fn rule_ok(limits: Limits, p: Pdu) -> bool
         }
         Request::Login(_) => p.immediate,
         Request::Logout(x) => (x.reason <= 2) & (p.data_segment_length == 0),
-        Request::Snack(x) => snack_ok(
-            x.snack_type,
-            p.initiator_task_tag,
-            x.target_transfer_tag,
-        ),
+        Request::Snack(x) => snack_ok(x.snack_type, p.initiator_task_tag, x.target_transfer_tag),
     }
 }
