@@ -1,5 +1,5 @@
 -- The tables of the twelve kinds, and where the values of a table's rows stand in a PDU or a response.
-use Prim.Native.Nat.{ℕ, _+_, _*_}
+use Prim.Native.Nat.{ℕ, _+_, _*_, _^_, _<_}
 use mathlib.Core.Bool.{Bool, true, false}
 use mathlib.Core.List.{List, [], _∷_}
 use lib.ListN.{getD}
@@ -103,3 +103,29 @@ tableOf logoutResponse =
 tableOf reject =
     bare ∷ plain ∷ whole 2 1 ∷ blank 3 1 ∷ lengths
     (blank 8 8 ∷ whole 16 4 ∷ blank 20 4 ∷ numbers (blank 36 12 ∷ []))
+
+-- ---- widths of what is read
+
+-- each of a request's own numbers is below its width's bound
+abbrev pub RequestFits : Request → Type 0
+RequestFits (Q.NopOut x) = x .«target_transfer_tag» < 2 ^ 32
+RequestFits (Q.ScsiCommand x) =
+    (x .attribute < 2 ^ 3) × (x .«total_ahs_length» < 2 ^ 8) × (x .«expected_data_transfer_length» < 2 ^ 32)
+    × (x .«cdb_0» < 2 ^ 64) × (x .«cdb_1» < 2 ^ 64)
+RequestFits (Q.TaskManagement x) =
+    (x .function < 2 ^ 7) × (x .«referenced_task_tag» < 2 ^ 32) × (x .«ref_cmd_sn» < 2 ^ 32) × (x .«exp_data_sn» < 2 ^ 32)
+RequestFits (Q.Login x) =
+    (x .csg < 2 ^ 2) × (x .nsg < 2 ^ 2) × (x .«version_max» < 2 ^ 8) × (x .«version_min» < 2 ^ 8)
+    × (x .isid < 2 ^ 48) × (x .tsih < 2 ^ 16) × (x .cid < 2 ^ 16)
+RequestFits (Q.Logout x) = (x .reason < 2 ^ 7) × (x .cid < 2 ^ 16)
+RequestFits (Q.Snack x) =
+    (x .«snack_type» < 2 ^ 4) × (x .«target_transfer_tag» < 2 ^ 32) × (x .«beg_run» < 2 ^ 32) × (x .«run_length» < 2 ^ 32)
+
+-- the common fields, and the request's own
+pub record PduFits (p : Pdu) : Type 0 where
+  pub lun : p .lun < 2 ^ 64
+  pub «initiator_task_tag» : p .«initiator_task_tag» < 2 ^ 32
+  pub «cmd_sn» : p .«cmd_sn» < 2 ^ 32
+  pub «exp_stat_sn» : p .«exp_stat_sn» < 2 ^ 32
+  pub «data_segment_length» : p .«data_segment_length» < 2 ^ 24
+  pub request : RequestFits (p .request)
