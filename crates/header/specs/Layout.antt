@@ -1,4 +1,6 @@
--- The tables of the twelve kinds, and where the values of a table's rows stand in a PDU or a response.
+-- The tables of the twelve kinds, as RFC 7143 draws them, and which field of a PDU or a response each named value is.
+-- A field that the RFC draws and 01 does not name is unnamed, and written 0: o, u, ExpDataSN and the Bidirectional Read Residual Count of a
+-- SCSI Response, C and both versions of a Login Response, DataSN/R2TSN of a Reject.
 use Prim.Native.Nat.{ℕ, _+_, _*_, _^_, _<_}
 use mathlib.Core.Bool.{Bool, true, false}
 use mathlib.Core.List.{List, [], _∷_}
@@ -104,6 +106,72 @@ tableOf reject =
     bare ∷ plain ∷ whole 2 1 ∷ blank 3 1 ∷ lengths
     (blank 8 8 ∷ whole 16 4 ∷ blank 20 4 ∷ numbers (blank 36 12 ∷ []))
 
+-- ---- the named values, in table order
+
+-- a bit is 1 where it is set
+abbrev pub bitOf : Bool → ℕ
+bitOf b = pick b 1 0
+
+abbrev pub requestKind : Request → Kind
+requestKind (Q.NopOut x) = nopOut
+requestKind (Q.ScsiCommand x) = scsiCommand
+requestKind (Q.TaskManagement x) = taskManagement
+requestKind (Q.Login x) = login
+requestKind (Q.Logout x) = logout
+requestKind (Q.Snack x) = snack
+
+-- opcode and byte 1 (with I, but in SNACK), what stands in bytes 2 and 3, TotalAHSLength, then the rest
+abbrev fieldsFor : Pdu → Request → List ℕ
+fieldsFor p (Q.NopOut x) =
+    opcode nopOut ∷ bitOf (p .immediate) ∷ 1 ∷ 0 ∷ p .«data_segment_length»
+    ∷ p .lun ∷ p .«initiator_task_tag» ∷ x .«target_transfer_tag» ∷ p .«cmd_sn» ∷ p .«exp_stat_sn» ∷ []
+fieldsFor p (Q.ScsiCommand x) =
+    opcode scsiCommand ∷ bitOf (p .immediate) ∷ x .attribute ∷ bitOf (x .«is_write») ∷ bitOf (x .«is_read») ∷ bitOf (x .«is_final»)
+    ∷ x .«total_ahs_length» ∷ p .«data_segment_length» ∷ p .lun ∷ p .«initiator_task_tag» ∷ x .«expected_data_transfer_length»
+    ∷ p .«cmd_sn» ∷ p .«exp_stat_sn» ∷ x .«cdb_0» ∷ x .«cdb_1» ∷ []
+fieldsFor p (Q.TaskManagement x) =
+    opcode taskManagement ∷ bitOf (p .immediate) ∷ x .function ∷ 1 ∷ 0 ∷ p .«data_segment_length»
+    ∷ p .lun ∷ p .«initiator_task_tag» ∷ x .«referenced_task_tag» ∷ p .«cmd_sn» ∷ p .«exp_stat_sn» ∷ x .«ref_cmd_sn» ∷ x .«exp_data_sn» ∷ []
+fieldsFor p (Q.Login x) =
+    opcode login ∷ bitOf (p .immediate) ∷ x .nsg ∷ x .csg ∷ bitOf (x .continues) ∷ bitOf (x .transit) ∷ x .«version_max» ∷ x .«version_min»
+    ∷ 0 ∷ p .«data_segment_length» ∷ x .isid ∷ x .tsih ∷ p .«initiator_task_tag» ∷ x .cid ∷ p .«cmd_sn» ∷ p .«exp_stat_sn» ∷ []
+fieldsFor p (Q.Logout x) =
+    opcode logout ∷ bitOf (p .immediate) ∷ x .reason ∷ 1 ∷ 0 ∷ p .«data_segment_length»
+    ∷ p .«initiator_task_tag» ∷ x .cid ∷ p .«cmd_sn» ∷ p .«exp_stat_sn» ∷ []
+fieldsFor p (Q.Snack x) =
+    opcode snack ∷ x .«snack_type» ∷ 1 ∷ 0 ∷ p .«data_segment_length»
+    ∷ p .lun ∷ p .«initiator_task_tag» ∷ x .«target_transfer_tag» ∷ p .«exp_stat_sn» ∷ x .«beg_run» ∷ x .«run_length» ∷ []
+
+abbrev pub requestFields : Pdu → List ℕ
+requestFields p = fieldsFor p (p .request)
+
+abbrev pub kindOf : Response → Kind
+kindOf (R.NopIn r) = nopIn
+kindOf (R.ScsiResponse r) = scsiResponse
+kindOf (R.TaskManagementResponse r) = taskManagementResponse
+kindOf (R.LoginResponse r) = loginResponse
+kindOf (R.LogoutResponse r) = logoutResponse
+kindOf (R.Reject r) = reject
+
+abbrev numbersThen : Numbers → List ℕ → List ℕ
+numbersThen n vs = n .«stat_sn» ∷ n .«exp_cmd_sn» ∷ n .«max_cmd_sn» ∷ vs
+
+abbrev pub responseFields : Response → Numbers → List ℕ
+responseFields (R.NopIn r) n =
+    opcode nopIn ∷ 1 ∷ 0 ∷ r .«data_segment_length» ∷ r .lun ∷ r .«initiator_task_tag» ∷ r .«target_transfer_tag» ∷ numbersThen n []
+responseFields (R.ScsiResponse r) n =
+    opcode scsiResponse ∷ bitOf (r .underflow) ∷ bitOf (r .overflow) ∷ 1 ∷ r .response ∷ r .status ∷ 0 ∷ r .«data_segment_length»
+    ∷ r .«initiator_task_tag» ∷ r .«snack_tag» ∷ numbersThen n (r .«residual_count» ∷ [])
+responseFields (R.TaskManagementResponse r) n =
+    opcode taskManagementResponse ∷ 1 ∷ r .response ∷ 0 ∷ 0 ∷ r .«initiator_task_tag» ∷ numbersThen n []
+responseFields (R.LoginResponse r) n =
+    opcode loginResponse ∷ r .nsg ∷ r .csg ∷ bitOf (r .transit) ∷ 0 ∷ r .«data_segment_length» ∷ r .isid ∷ r .tsih ∷ r .«initiator_task_tag»
+    ∷ numbersThen n (r .«status_class» ∷ r .«status_detail» ∷ [])
+responseFields (R.LogoutResponse r) n =
+    opcode logoutResponse ∷ 1 ∷ r .response ∷ 0 ∷ 0 ∷ r .«initiator_task_tag» ∷ numbersThen n (r .time2wait ∷ r .time2retain ∷ [])
+responseFields (R.Reject r) n =
+    opcode reject ∷ 1 ∷ r .reason ∷ 0 ∷ 48 ∷ 0xffffffff ∷ numbersThen n []
+
 -- ---- widths of what is read
 
 -- each of a request's own numbers is below its width's bound
@@ -129,3 +197,20 @@ pub record PduFits (p : Pdu) : Type 0 where
   pub «exp_stat_sn» : p .«exp_stat_sn» < 2 ^ 32
   pub «data_segment_length» : p .«data_segment_length» < 2 ^ 24
   pub request : RequestFits (p .request)
+
+-- ---- widths of what is written
+
+-- a response's own numbers are of their types' widths; what a refusal keeps narrower (the data length, CSG, NSG, ISID) is left out
+abbrev pub ResponseFits : Response → Type 0
+ResponseFits (R.NopIn r) = (r .lun < 2 ^ 64) × (r .«initiator_task_tag» < 2 ^ 32) × (r .«target_transfer_tag» < 2 ^ 32)
+ResponseFits (R.ScsiResponse r) =
+    (r .response < 2 ^ 8) × (r .status < 2 ^ 8) × (r .«initiator_task_tag» < 2 ^ 32) × (r .«snack_tag» < 2 ^ 32) × (r .«residual_count» < 2 ^ 32)
+ResponseFits (R.TaskManagementResponse r) = (r .response < 2 ^ 8) × (r .«initiator_task_tag» < 2 ^ 32)
+ResponseFits (R.LoginResponse r) =
+    (r .tsih < 2 ^ 16) × (r .«initiator_task_tag» < 2 ^ 32) × (r .«status_class» < 2 ^ 8) × (r .«status_detail» < 2 ^ 8)
+ResponseFits (R.LogoutResponse r) =
+    (r .response < 2 ^ 8) × (r .«initiator_task_tag» < 2 ^ 32) × (r .time2wait < 2 ^ 16) × (r .time2retain < 2 ^ 16)
+ResponseFits (R.Reject r) = r .reason < 2 ^ 8
+
+abbrev pub NumbersFit : Numbers → Type 0
+NumbersFit n = (n .«stat_sn» < 2 ^ 32) × (n .«exp_cmd_sn» < 2 ^ 32) × (n .«max_cmd_sn» < 2 ^ 32)
