@@ -1,5 +1,5 @@
 -- What a table writes it reads back, and what it reads it writes again: over every table.
-use mathlib.Core.Path.{_≡_, refl, sym, ap, _∙_, subst}
+use mathlib.Core.Path.{_≡_, refl, sym, ap, _∙_}
 use mathlib.Core.Bool.{Bool, true, false, _&&_}
 use mathlib.Core.List.{List, [], _∷_, _++_, append-assoc}
 use Prim.Native.Nat.{ℕ, zero, suc, _+_, _-_, _*_, _/_, _%_, _^_, _<_, _≤_}
@@ -8,7 +8,7 @@ use native.Mathlib.Omega.{arith}
 use lib.Pow.{pow-pos, pow-add, shr-lt}
 use lib.Dec.{T, eqb, eqb→eq, lit<}
 use lib.ListN.{length, getD, take, drop, length-append, List·getD-append, length-drop, take-append-drop}
-use lib.Seq.{getD-append-add, getD-at, getD-drop, take-suc, take-add, take-all, drop-drop}
+use lib.Seq.{getD-append-add, getD-at, getD-drop, take-suc, take-add, drop-drop}
 use Rattle.header.specs.Field.{beAt, bytesOf}
 use Rattle.header.specs.Table.{Bits, field, unnamed, width, Row, total, digits, pack, Fit, Fits, sound, written, readBy, countIn, count, namedIn, named, filledIn, filled}
 use Rattle.header.proofs.Laws.{length-bytes, be-lt}
@@ -29,8 +29,8 @@ be-bytes (suc n) v h =
     let t = v % 256 ∷ [] in
     let l : length b ≡ n = length-bytes n (v / 256) in
     let front : beAt (b ++ t) 0 n ≡ v / 256 =
-        be-ext (b ++ t) b 0 0 n (λ i p. List·getD-append b t 0 (0 + i) (omega arith))
-        ∙ be-bytes n (v / 256) (div-lt-iff-lt-mul (lit< tt) .1 (rw pow-suc at h)) in
+    be-ext (b ++ t) b 0 0 n (λ i p. List·getD-append b t 0 (0 + i) (omega arith))
+    ∙ be-bytes n (v / 256) (div-lt-iff-lt-mul (lit< tt) .1 (rw pow-suc at h)) in
     let last : getD (b ++ t) (0 + n) 0 ≡ v % 256 = getD-at b (v % 256) [] 0 (0 + n) (omega arith) in
     rw (front, last) (div-add-mod' v 256)
 
@@ -126,7 +126,7 @@ back at (r ∷ rs) (vs ∷ vss) p q t e f =
     let s : p ++ ((b ++ w) ++ q) ≡ (p ++ b) ++ (w ++ q) = simp append-assoc in
     let n : length (p ++ b) ≡ at + r .size = simp (length-append, length-bytes, e) in
     let here : beAt (p ++ ((b ++ w) ++ q)) (r .at) (r .size) ≡ v =
-        rw (append-assoc, g .here, ← e) (be-middle p (w ++ q) (r .size) v (rw (g .wide) at (pack-lt (r .bits) vs (f .0)))) in
+    rw (append-assoc, g .here, ← e) (be-middle p (w ++ q) (r .size) v (rw (g .wide) at (pack-lt (r .bits) vs (f .0)))) in
     let there : readBy rs (p ++ ((b ++ w) ++ q)) ≡ vss = rw s (back (at + r .size) rs vss (p ++ b) q (g .rest) n (f .1)) in
     rw (here, there, digits-pack (r .bits) vs (f .0))
 

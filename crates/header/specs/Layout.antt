@@ -1,13 +1,11 @@
 -- The tables of the twelve kinds, as RFC 7143 draws them, and which field of a PDU or a response each named value is.
--- A field that the RFC draws and 01 does not name is unnamed, and written 0: o, u, ExpDataSN and the Bidirectional Read Residual Count of a
--- SCSI Response, C and both versions of a Login Response, DataSN/R2TSN of a Reject.
-use Prim.Native.Nat.{ℕ, _+_, _*_, _^_, _<_}
-use mathlib.Core.Bool.{Bool, true, false}
+-- Unnamed are the reserved bits, and what the RFC draws but the headers written don't name: o, u, ExpDataSN and Bidirectional Read
+-- Residual Count of a SCSI Response, C and both versions of a Login Response, DataSN/R2TSN of a Reject.
+use Prim.Native.Nat.{ℕ, _^_, _<_}
+use mathlib.Core.Bool.{Bool}
 use mathlib.Core.List.{List, [], _∷_}
-use lib.ListN.{getD}
-use lib.Dec.{eqb}
 use Rattle.header.specs.Field.{pick}
-use Rattle.header.specs.Table.{Bits, field, unnamed, Row, row, whole, blank}
+use Rattle.header.specs.Table.{field, unnamed, Row, row, whole, blank}
 use Rattle.header.specs.declared.request.Pdu.{Pdu}
 use Rattle.header.specs.declared.request.Request.{Request}
 use Rattle.header.specs.declared.request.Request.the-variants as Q
@@ -41,10 +39,7 @@ request = row 0 1 (field 6 ∷ field 1 ∷ unnamed 1 ∷ [])
 abbrev bare : Row
 bare = row 0 1 (field 6 ∷ unnamed 2 ∷ [])
 
--- byte 1: its highest bit is 1, and of the rest this much is a field
-abbrev top : ℕ → ℕ → Row
-top w u = row 1 1 (field w ∷ unnamed u ∷ field 1 ∷ [])
-
+-- byte 1: only its highest bit has a name
 abbrev plain : Row
 plain = row 1 1 (unnamed 7 ∷ field 1 ∷ [])
 
@@ -65,7 +60,7 @@ tableOf nopOut =
 tableOf scsiCommand =
     request ∷ row 1 1 (field 3 ∷ unnamed 2 ∷ field 1 ∷ field 1 ∷ field 1 ∷ []) ∷ blank 2 2 ∷ lengths
     (whole 8 8 ∷ whole 16 4 ∷ whole 20 4 ∷ whole 24 4 ∷ whole 28 4 ∷ whole 32 8 ∷ whole 40 8 ∷ [])
--- function; LUN, ITT, Referenced Task Tag, CmdSN, ExpStatSN, RefCmdSN, ExpDataSN
+-- function, 1; LUN, ITT, Referenced Task Tag, CmdSN, ExpStatSN, RefCmdSN, ExpDataSN
 tableOf taskManagement =
     request ∷ row 1 1 (field 7 ∷ field 1 ∷ []) ∷ blank 2 2 ∷ lengths
     (whole 8 8 ∷ whole 16 4 ∷ whole 20 4 ∷ whole 24 4 ∷ whole 28 4 ∷ whole 32 4 ∷ whole 36 4 ∷ blank 40 8 ∷ [])
@@ -73,13 +68,13 @@ tableOf taskManagement =
 tableOf login =
     request ∷ row 1 1 (field 2 ∷ field 2 ∷ unnamed 2 ∷ field 1 ∷ field 1 ∷ []) ∷ whole 2 1 ∷ whole 3 1 ∷ lengths
     (whole 8 6 ∷ whole 14 2 ∷ whole 16 4 ∷ whole 20 2 ∷ blank 22 2 ∷ whole 24 4 ∷ whole 28 4 ∷ blank 32 16 ∷ [])
--- reason; ITT, CID, CmdSN, ExpStatSN
+-- reason, 1; ITT, CID, CmdSN, ExpStatSN
 tableOf logout =
     request ∷ row 1 1 (field 7 ∷ field 1 ∷ []) ∷ blank 2 2 ∷ lengths
     (blank 8 8 ∷ whole 16 4 ∷ whole 20 2 ∷ blank 22 2 ∷ whole 24 4 ∷ whole 28 4 ∷ blank 32 16 ∷ [])
--- type; LUN, ITT, TTT or SNACK Tag, ExpStatSN, BegRun, RunLength
+-- type, unnamed, 1; LUN, ITT, TTT or SNACK Tag, ExpStatSN, BegRun, RunLength
 tableOf snack =
-    bare ∷ top 4 3 ∷ blank 2 2 ∷ lengths
+    bare ∷ row 1 1 (field 4 ∷ unnamed 3 ∷ field 1 ∷ []) ∷ blank 2 2 ∷ lengths
     (whole 8 8 ∷ whole 16 4 ∷ whole 20 4 ∷ blank 24 4 ∷ whole 28 4 ∷ blank 32 8 ∷ whole 40 4 ∷ whole 44 4 ∷ [])
 -- LUN, ITT, TTT
 tableOf nopIn =
@@ -120,7 +115,7 @@ requestKind (Q.Login x) = login
 requestKind (Q.Logout x) = logout
 requestKind (Q.Snack x) = snack
 
--- opcode and byte 1 (with I, but in SNACK), what stands in bytes 2 and 3, TotalAHSLength, then the rest
+-- byte 1's highest bit is 1 but in SCSI Command and Login, and TotalAHSLength is 0 but in SCSI Command
 abbrev fieldsFor : Pdu → Request → List ℕ
 fieldsFor p (Q.NopOut x) =
     opcode nopOut ∷ bitOf (p .immediate) ∷ 1 ∷ 0 ∷ p .«data_segment_length»

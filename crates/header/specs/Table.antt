@@ -1,7 +1,7 @@
 -- A header as a table of fields: offset, width, unnamed bits too. What a table writes it also reads (proofs/Table): a second view of
 -- the headers, beside the definitions by offset in Request and Response.
 use Prim.Native.Nat.{ℕ, suc, _+_, _*_, _/_, _%_, _^_, _<_}
-use mathlib.Core.Bool.{Bool, true, false, _&&_}
+use mathlib.Core.Bool.{Bool, _&&_}
 use mathlib.Core.List.{List, [], _∷_, _++_}
 use lib.Dec.{eqb}
 use lib.ListN.{drop}
