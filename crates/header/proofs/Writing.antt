@@ -2,11 +2,11 @@
 use mathlib.Core.Path.{_≡_, refl, sym, ap, _∙_}
 use mathlib.Core.List.{List, [], _∷_}
 use Prim.Native.Nat.{ℕ}
-use lib.ListN.{length, replicate, length-replicate}
+use lib.ListN.{length, getD, replicate, length-replicate}
 use lib.Seq.{sets, length-sets}
 use Rattle.header.specs.Field.{bytesOf}
 use Rattle.header.specs.Response.{Field, place, ownFields, numbersFields, headerBytes}
-use Rattle.header.specs.Layout.{opcode}
+use Rattle.header.specs.Layout.{opcode, kindOf}
 use Rattle.header.specs.declared.response.Numbers.{Numbers}
 use Rattle.header.specs.declared.response.Response.{Response}
 use Rattle.header.specs.declared.response.Response.the-variants as R
@@ -22,3 +22,13 @@ length-header r n =
     length-place (ownFields r) (place (numbersFields n) (replicate 48 0))
     ∙ length-place (numbersFields n) (replicate 48 0)
     ∙ length-replicate {A = ℕ} 48 0
+
+-- its first byte is its kind's opcode
+pub header-opcode : (r : Response) (n : Numbers) → getD (headerBytes r n) 0 0 ≡ opcode (kindOf r)
+unfolding headerBytes ownFields bytesOf
+header-opcode (R.NopIn r) n = refl
+header-opcode (R.ScsiResponse r) n = refl
+header-opcode (R.TaskManagementResponse r) n = refl
+header-opcode (R.LoginResponse r) n = refl
+header-opcode (R.LogoutResponse r) n = refl
+header-opcode (R.Reject r) n = refl
