@@ -1,10 +1,9 @@
 -- Laws of a number's bits, as `bitAt` has them, and of the maps of a list of places. By induction on the bit, with n / 2
 -- and n % 2 for what is left and the lowest.
-use Prim.Native.Nat.{ℕ, zero, suc, _+_, _-_, _*_, _/_, _%_, _^_, _≤_, _<_, min, max}
-use mathlib.Core.Path.{_≡_, refl, sym, ap, ap₂, _∙_, subst}
-use mathlib.Core.Bool.{Bool, true, false}
+use Prim.Native.Nat.{ℕ, zero, suc, _+_, _-_, _/_, _%_, _^_, _≤_, _<_, min, max}
+use mathlib.Core.Path.{_≡_, refl, sym, ap, ap₂, _∙_}
 use mathlib.Core.List.{List, [], _∷_, _++_}
-use native.Mathlib.Nat.{div-one, pow-suc, max-zero, mod-lt, zero-add, lt-of-le-of-lt}
+use native.Mathlib.Nat.{div-one, pow-suc, max-zero, zero-add, lt-of-le-of-lt}
 use native.Mathlib.Numerals.{one-add}
 use native.Mathlib.Omega.{arith}
 use native.Mathlib.Decide.{ℕ-discrete, decLt}
@@ -15,7 +14,7 @@ use lib.Count.{ones, ones-step, ones-ones, trailingZeros, under}
 use lib.ListN.{length, getD, set, drop, replicate}
 use lib.Seq.{getD-set-same, getD-set-other}
 use Rattle.window.specs.Bit.{bitAt, withBit, without}
-use Rattle.window.specs.Book.{Place, empty, holds, gapless, one-if, sumOf}
+use Rattle.window.specs.Book.{Place, empty, holds, gapless, sumOf}
 use Rattle.window.specs.Agree.{Maps, heldBit}
 
 pub bit-zero : (n : ℕ) → bitAt n 0 ≡ n % 2

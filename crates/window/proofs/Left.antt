@@ -1,13 +1,13 @@
 -- A logout of the code against the book's: what each place is after it, and so each bit of the maps. `concerned` is the map
 -- of the commands that the logout concerns, and the first g places lie before ExpCmdSN.
-use Prim.Native.Nat.{ℕ, zero, suc, _+_, _-_, _*_, _/_, _%_, _^_, _≤_, _<_, min, max}
-use mathlib.Core.Path.{_≡_, refl, sym, ap, ap₂, _∙_, subst}
-use mathlib.Core.Bool.{Bool, true, false, not, _&&_, _||_}
-use mathlib.Core.List.{List, [], _∷_, _++_}
+use Prim.Native.Nat.{ℕ, zero, suc, _+_, _-_, _%_, _^_, _≤_, _<_, min, max}
+use mathlib.Core.Path.{_≡_, refl, sym, ap, ap₂, _∙_}
+use mathlib.Core.Bool.{Bool, true, false, not, _&&_}
+use mathlib.Core.List.{List, [], _∷_}
 use native.Mathlib.Nat.{lt-of-le-of-lt}
 use native.Mathlib.Omega.{arith}
 use native.Mathlib.Decide.{ℕ-discrete, decLt}
-use borrow.Author.Tests.{ne-eqb, eq-eqb, eqb-true, eqb-false, lt-ltb, le-ltb}
+use borrow.Author.Tests.{ne-eqb, eq-eqb, eqb-true, lt-ltb, le-ltb}
 use lib.Dec.{eqb, ltb}
 use lib.Pow.{pow-mono, pow-pos}
 use lib.Bits.{bitAnd, bitOr, and-le-l, and-le-r}
@@ -17,8 +17,9 @@ use lib.ListN.{length, getD, drop, set, length-set, List·getD-eq-default}
 use lib.Seq.{getD-set-same, getD-set-other, getD-take, length-take-le}
 use Rattle.window.specs.declared.Window.{Window}
 use Rattle.window.specs.Bit.{bitAt, without, eachWithout}
-use Rattle.window.specs.Book.{Origin, none, connection, Command, Place, empty, holds, Book, next, gapless, Call, logout, Answer, loggedOut, Step, step, pick, one-if, isFrom, concerns, spared, before, after, left, emptiedAt, voidedAt, sumOf, afterLogout, logoutStep, bookStep}
-use Rattle.window.specs.Agree.{State, state, heldBit, voidBit, originBit, Maps, SlotHas, Agrees, MeetsAt}
+use Rattle.window.specs.Book.{Origin, none, connection, Place, empty, holds, Book, next, gapless, logout, loggedOut, step, one-if, isFrom, concerns, spared, before, after, left, emptiedAt, voidedAt, sumOf, afterLogout, logoutStep, bookStep}
+use Rattle.header.specs.Field.{pick}
+use Rattle.window.specs.Agree.{state, heldBit, voidBit, originBit, Maps, SlotHas, Agrees}
 use Rattle.window.proofs.Bits.{bit-none, bit-lt, bit-or, bit-and, bit-high, bit-below, bit-above, bit-without, without-lt, ones-count, ones-from}
 
 -- ---- the bits of a place after the logout

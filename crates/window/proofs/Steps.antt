@@ -1,23 +1,23 @@
 -- Offer and take of the code against the book's: one law for each outcome of the book's step, and one for each change of
 -- the code's state that agreement survives.
-use Prim.Native.Nat.{ℕ, zero, suc, _+_, _-_, _*_, _/_, _%_, _^_, _≤_, _<_, min, max}
-use mathlib.Core.Path.{_≡_, refl, sym, ap, ap₂, _∙_, subst}
+use Prim.Native.Nat.{ℕ, suc, _+_, _-_, _*_, _/_, _%_, _^_, _≤_, _<_, min}
+use mathlib.Core.Path.{_≡_, refl, sym, ap, _∙_, subst}
 use mathlib.Core.Bool.{Bool, true, false}
-use mathlib.Core.List.{List, [], _∷_, _++_}
-use native.Mathlib.Nat.{zero-max, add-zero}
+use mathlib.Core.List.{List, [], _++_}
+use native.Mathlib.Nat.{add-zero}
 use native.Mathlib.Omega.{arith}
 use native.Mathlib.Decide.{ℕ-discrete, decLt}
-use borrow.Author.Tests.{lt-ltb, le-ltb, le-leb, lt-leb, ne-eqb, eq-eqb, eqb-true}
-use lib.Dec.{eqb, ltb}
+use borrow.Author.Tests.{lt-ltb, le-ltb, le-leb, lt-leb, ne-eqb, eq-eqb}
+use lib.Dec.{eqb}
 use lib.ListN.{length, getD, set, drop, length-append, length-drop, length-set, List·getD-eq-default}
 use lib.Seq.{paste, getD-set-same, getD-set-other, length-paste}
 use Rattle.store.specs.Slot.{slotOf}
 use Rattle.store.proofs.Slots.{slot-same, slot-other}
 use Rattle.window.specs.declared.Window.{Window}
 use Rattle.window.specs.Bit.{bitAt, withBit}
-use Rattle.window.specs.Book.{Origin, none, connection, Command, Place, empty, holds, Book, next, Call, offer, take, Answer, kept, duplicate, passed, beyond, nothing, command, void, Step, step, pick, distance, keeping, offerAt, wasHandedOut, offerStep, handedOn, takeStep, firstPlace, bookStep, one-if, isFrom}
-use Rattle.window.specs.Agree.{State, state, heldBit, voidBit, originBit, Maps, SlotHas, Agrees, OriginAt, MeetsAt, Meets}
-use Rattle.window.proofs.Bits.{bit-zero, bit-none, maps-shift, maps-set, maps-keep, shifted}
+use Rattle.window.specs.Book.{Origin, none, connection, Command, Place, empty, holds, Book, next, Call, offer, take, Answer, kept, duplicate, passed, beyond, nothing, command, void, Step, step, distance, keeping, offerAt, wasHandedOut, offerStep, handedOn, takeStep, firstPlace, bookStep, one-if, isFrom}
+use Rattle.window.specs.Agree.{State, state, heldBit, voidBit, originBit, Maps, SlotHas, Agrees, OriginAt, MeetsAt}
+use Rattle.window.proofs.Bits.{bit-zero, maps-shift, maps-set, maps-keep, shifted}
 
 pub offer-at : (b : Book) (n t c : ℕ) (h : List ℕ) (d : ℕ) → distance b n ≡ d
     → bookStep b (offer n t c h) ≡ offerStep b d (record { header = h; ticket = t; origin = connection c; void = false })

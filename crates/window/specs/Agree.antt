@@ -2,12 +2,11 @@
 -- R + d, for the place d.
 use Prim.Native.Nat.{ℕ, _+_, _*_, _%_, _≤_, min}
 use mathlib.Core.Path.{_≡_}
-use mathlib.Core.Bool.{Bool, true, false}
-use mathlib.Core.List.{List, [], _∷_}
+use mathlib.Core.List.{List, []}
 use lib.ListN.{length, getD, replicate}
 use Rattle.store.specs.Slot.{headerSize, slotOf}
 use Rattle.window.specs.Bit.{bitAt}
-use Rattle.window.specs.Book.{places, remembered, Origin, none, connection, Command, Place, empty, holds, Book, next, gapless, freshBook, Call, offer, take, logout, Answer, kept, duplicate, passed, beyond, nothing, command, void, loggedOut, bookStep, isFrom, one-if}
+use Rattle.window.specs.Book.{places, remembered, Origin, none, connection, Place, empty, holds, Book, next, gapless, freshBook, Call, offer, take, logout, Answer, kept, duplicate, passed, beyond, nothing, command, void, loggedOut, bookStep, isFrom, one-if}
 use Rattle.window.specs.declared.Window.{Window}
 use Rattle.window.specs.declared.FreshWindow.{FreshWindow}
 use Rattle.window.specs.declared.Offered.{Offered}

@@ -5,11 +5,8 @@ use mathlib.Core.List.{List, [], _∷_, _++_}
 use lib.Dec.{ltb, leb, eqb}
 use lib.ListN as ListN
 use lib.ListN.{getD, set, drop, replicate}
+use Rattle.header.specs.Field.{pick}
 use Rattle.store.specs.Slot.{headerSize}
-
-abbrev pub pick : {A : Type 0} → Bool → A → A → A
-pick true a b = a
-pick false a b = b
 
 -- "64 places".
 abbrev pub places : ℕ

@@ -12,7 +12,8 @@ ghost use lib.Dec.{eqb, ltb};
 ghost use lib.ListN.{set};
 ghost use Rattle.store.specs.Slot.{headerSize};
 ghost use Rattle.window.specs.Bit.{without, eachWithout};
-ghost use Rattle.window.specs.Book.{Book, remembered, expCmdSN, maxCmdSN, Call, Answer, handedOn, firstPlace, pick, closeSession, recovery};
+ghost use Rattle.window.specs.Book.{Book, remembered, expCmdSN, maxCmdSN, Call, Answer, handedOn, firstPlace, closeSession, recovery};
+ghost use Rattle.header.specs.Field.{pick};
 ghost use Rattle.window.specs.Agree.{Agrees, Did, IsFresh, OriginAt, state, offerAnswer, takeAnswer, originOf};
 
 // The places of a window.

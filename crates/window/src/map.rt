@@ -5,7 +5,8 @@ ghost use Prim.Native.Nat.{_-_, _^_, _<_, _≤_};
 ghost use lib.ListN.{getD, set};
 ghost use lib.Dec.{ltb};
 ghost use Rattle.window.specs.Bit.{bitAt, withBit, without, eachWithout};
-ghost use Rattle.window.specs.Book.{places, pick};
+ghost use Rattle.window.specs.Book.{places};
+ghost use Rattle.header.specs.Field.{pick};
 ghost use Rattle.window.specs.Agree.{Counts};
 use crate::CONNECTIONS;
 

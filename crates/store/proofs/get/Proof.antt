@@ -1,8 +1,7 @@
 -- `store::get` meets its contract: it puts the rest of the headers at the start of out.
-use Prim.Native.Nat.{_≤_, _-_}
+use Prim.Native.Nat.{_-_, ℕ}
 use mathlib.Core.Path.{_≡_, _∙_, ap}
 use mathlib.Core.List.{List, _++_}
-use Prim.Native.Nat.{ℕ}
 use native.Mathlib.Omega.{arith}
 use borrow.Author.Needs.{needs}
 use lib.ListN.{length, drop, take, length-drop}

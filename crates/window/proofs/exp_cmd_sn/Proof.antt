@@ -1,6 +1,6 @@
 -- `window::exp_cmd_sn` meets its contract.
 use Prim.Native.Nat.{ℕ, _+_, _%_, _^_}
-use mathlib.Core.Path.{_≡_, _∙_, ap₂}
+use mathlib.Core.Path.{_∙_, ap₂}
 use borrow.Author.Needs.{needs}
 use Rattle.window.specs.Book.{expCmdSN}
 use Rattle.window.proofs.exp_cmd_sn.Statement.{statement}

@@ -3,10 +3,8 @@ use Prim.Native.Nat.{_-_, _^_, _≤_, _<_}
 use mathlib.Core.Path.{_≡_, refl}
 use native.Mathlib.Omega.{arith}
 use borrow.Author.Needs.{needs}
-use lib.Dec.{eqb}
-use lib.Bits.{bitAnd}
 use Rattle.window.specs.Bit.{without}
-use Rattle.window.specs.Book.{logout, pick}
+use Rattle.window.specs.Book.{logout}
 use Rattle.window.proofs.Steps.{met}
 use Rattle.window.proofs.Left.{logout-step, left-agrees, concerned-bit, origins-in, origins-out, origins-length}
 use Rattle.window.proofs.logout.Statement.{statement}

@@ -1,16 +1,14 @@
 -- `window::offer` meets its contract.
-use Prim.Native.Nat.{ℕ, _%_, _<_}
-use mathlib.Core.Path.{_≡_, refl, sym, _∙_}
+use Prim.Native.Nat.{ℕ, _%_, _<_, _+_, _*_}
+use mathlib.Core.Path.{_≡_, refl, sym, _∙_, ap}
 use native.Mathlib.Omega.{arith}
 use lib.ListN as ListN
 use lib.ListN.{getD, length}
 use lib.Seq.{length-take-le, take-take, paste}
 use mathlib.Core.List.{List, _++_}
-use mathlib.Core.Path.{ap}
-use Prim.Native.Nat.{_+_, _*_}
 use Rattle.window.specs.Bit.{bitAt}
 use Rattle.window.proofs.Bits.{bit-lt}
-use Rattle.window.specs.Book.{Book, empty}
+use Rattle.window.specs.Book.{empty}
 use Rattle.window.proofs.Steps.{met, offer-at, distance-is, step-passed, step-beyond, step-duplicate, step-kept, place-bit, held-none, keep-agrees}
 use borrow.Author.Needs.{needs}
 use Rattle.window.proofs.offer.Statement.{statement}

@@ -1,5 +1,5 @@
 -- `window::take` meets its contract: the first bits of the maps say which of the three answers it is.
-use Prim.Native.Nat.{ℕ, _%_}
+use Prim.Native.Nat.{_%_}
 use mathlib.Core.Path.{_≡_, refl}
 use mathlib.Core.List.{_++_}
 use lib.ListN.{drop}
