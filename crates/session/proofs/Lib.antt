@@ -1,0 +1,3 @@
+-- Laws of the session.
+pub mod Headers
+pub mod Steps

@@ -1,0 +1,54 @@
+-- `session::fresh` meets its contract.
+use Prim.Native.Nat.{ℕ, zero, suc, _+_, _-_, _*_, _%_, _<_, _≤_}
+use mathlib.Core.Path.{_≡_, refl, sym, ap, ap₂, _∙_, subst}
+use mathlib.Core.Bool.{Bool, true, false}
+use mathlib.Core.List.{List, [], _∷_, _++_}
+use native.Mathlib.Omega.{arith}
+use borrow.Author.Needs.{needs}
+use borrow.Author.Tests.{lt-ltb, le-ltb, le-leb, lt-leb, leb-true, leb-false, eq-eqb, ne-eqb}
+use lib.ListN.{length, getD, set, drop, replicate, length-set}
+use lib.Seq.{getD-set-same, getD-set-other}
+use Rattle.window.specs.Book as W
+use Rattle.ledger.specs.Book as L
+use Rattle.ledger.specs.Agree as LA
+use Rattle.ledger.specs.declared.Ledger.{Ledger}
+use Rattle.session.specs.Book as B
+use Rattle.session.specs.Book.{bookStep, step, withConn, loggedOut, freshBook}
+use Rattle.session.specs.Agree.{ConnAgrees, ledgerOf, noLedger, withLedger}
+use Rattle.session.proofs.Steps.{met, refusing, lend-short, lend-long, reach-none, is-closed, reach-closed, OpenAt, open-at, reach-open, offer-eq, take-eq, logout-eq, open-eq, send-eq, acknowledge-eq, snack-eq, resend-eq, by-window, conn-set, left-agrees, send-refused, send-unstored, send-stored, shown-missing, shown-found, acknowledge-stale, acknowledge-good, open-none, open-live, open-closed, snack-live, snack-refused, snack-run, run-none, run-some, logout-field, logout-done, resend-none, resend-some, offer-live, offer-refused, offer-immediate, offer-numbered, numbered-long}
+use Rattle.session.proofs.fresh.Statement.{statement}
+use Rattle.session.proofs.fresh.Tie as tie
+
+each : (l n : Ledger) (s : ℕ) (hs ts : List ℕ) → LA.Agrees 0 l hs ts (L.freshLedger s) → n .«is_open» ≡ false → (c : ℕ) → c < 4
+    → ConnAgrees c (getD (l ∷ n ∷ n ∷ n ∷ []) c noLedger) hs ts (getD (B.live (L.freshLedger s) ∷ B.closed ∷ B.closed ∷ B.closed ∷ []) c B.closed)
+unfolding ConnAgrees
+each l n s hs ts a e zero h = a
+each l n s hs ts a e (suc zero) h = e
+each l n s hs ts a e (suc (suc zero)) h = e
+each l n s hs ts a e (suc (suc (suc zero))) h = e
+each l n s hs ts a e (suc (suc (suc (suc c)))) h = absurd (omega arith)
+
+returns : tie.Need-returns
+unfolding freshBook ledgerOf ConnAgrees
+returns c =
+    let w = c .before .before .before .before .before .fresh in
+    let o = c .before .opened in
+    let n = c .closed in
+    record {
+      agrees = record {
+        level = refl;
+        window = w .ensures .agrees;
+        conns-size = refl;
+        book-size = refl;
+        statuses-size = search needs;
+        tickets-size = search needs;
+        conns = each (o .result) (n .result) (c .before .before .before .before .before .before .args .stat-sn) _ _ (o .ensures .agrees 0 _ _ (omega arith) (search needs) (search needs)) (n .ensures);
+      };
+      zero-headers = w .ensures .zero-headers;
+      zero-tickets = w .ensures .zero-tickets;
+      zero-statuses = search needs;
+      zero-status-tickets = search needs;
+    }
+
+pub fresh-spec : {M : Type 1} → statement M
+fresh-spec = tie.close (tie.spec (λ c κs. search needs) (λ c κs. search needs) (λ c κs. search needs) returns)

@@ -1,0 +1,112 @@
+-- `session::status::send` meets its contract.
+use Prim.Native.Nat.{ℕ, zero, suc, _+_, _-_, _*_, _%_, _<_, _≤_}
+use mathlib.Core.Path.{_≡_, refl, sym, ap, ap₂, _∙_, subst}
+use mathlib.Core.Bool.{Bool, true, false}
+use mathlib.Core.List.{List, [], _∷_, _++_}
+use native.Mathlib.Omega.{arith}
+use borrow.Author.Needs.{needs}
+use borrow.Author.Tests.{lt-ltb, le-ltb, le-leb, lt-leb, leb-true, leb-false, eq-eqb, ne-eqb}
+use lib.ListN.{length, getD, set, drop, replicate, length-set}
+use lib.Seq.{getD-set-same, getD-set-other}
+use Rattle.window.specs.Book as W
+use Rattle.ledger.specs.Book as L
+use Rattle.ledger.specs.Agree as LA
+use Rattle.ledger.specs.declared.Ledger.{Ledger}
+use Rattle.session.specs.Book as B
+use Rattle.session.specs.Book.{bookStep, step, withConn, loggedOut, freshBook}
+use Rattle.session.specs.Agree.{ConnAgrees, ledgerOf, noLedger, withLedger}
+use Rattle.session.proofs.Steps.{met, refusing, lend-short, lend-long, reach-none, is-closed, reach-closed, OpenAt, open-at, reach-open, offer-eq, take-eq, logout-eq, open-eq, send-eq, acknowledge-eq, snack-eq, resend-eq, by-window, conn-set, left-agrees, send-refused, send-unstored, send-stored, shown-missing, shown-found, acknowledge-stale, acknowledge-good, open-none, open-live, open-closed, snack-live, snack-refused, snack-run, run-none, run-some, logout-field, logout-done, resend-none, resend-some, offer-live, offer-refused, offer-immediate, offer-numbered, numbered-long}
+use Rattle.session.proofs.status.send.Statement.{statement}
+use Rattle.session.proofs.status.send.Tie as tie
+
+returns : tie.Need-returns
+returns c h t =
+    let a = c .before .before .args in
+    refusing _ _ 1 (a .out .now) refl (λ b g. send-eq b (a .conn) (a .ticket) (a .r) (a .out .now) ∙ lend-short b (a .out .now) _ (c .if1 .taken))
+
+send-requires : tie.Need-send-requires
+send-requires c κs =
+    let i = rw (c .before .before .before .before .before .before .before .l .given .1) at (c .before .before .before .before .before .before .before .before .before .reach .ensures) in
+    (i .near, c .before .before .before .before .before .before .before .before .before .before .if1 .left)
+
+with-ledger-requires : tie.Need-with-ledger-requires
+with-ledger-requires c κs =
+    let i = rw (c .before .before .before .before .before .before .before .before .before .before .before .before .before .l .given .1) at (c .before .before .before .before .before .before .before .before .before .before .before .before .before .before .before .reach .ensures) in
+    i .near
+
+returns-2 : tie.Need-returns-2
+returns-2 c h t =
+    let a = c .before .before .before .before .before .args in
+    let far : 4 ≤ a .conn = rw (c .enum-told .given .1) at (c .before .before .reach .ensures) in
+    refusing _ _ 7 (a .out .now) refl (λ b g.
+    send-eq b (a .conn) (a .ticket) (a .r) (a .out .now) ∙ lend-long b (a .out .now) _ (c .before .before .before .if1 .left) ∙ reach-none b (a .conn) (a .out .now) _ far)
+
+returns-3 : tie.Need-returns-3
+returns-3 c h t =
+    let a = c .before .before .before .before .before .args in
+    let n = rw (c .enum-told2 .given .1) at (c .before .before .reach .ensures) in
+    refusing _ _ 8 (a .out .now) refl (λ b g.
+    send-eq b (a .conn) (a .ticket) (a .r) (a .out .now) ∙ lend-long b (a .out .now) _ (c .before .before .before .if1 .left)
+    ∙ reach-closed (a .s) h t (a .statuses .now) (a .status-tickets .now) b (a .conn) (a .out .now) _ g (n .0) (n .1))
+
+returns-4 : tie.Need-returns-4
+returns-4 c h t =
+    let a = c .before .before .before .before .before .before .before .before .before .before .before .before .before .before .before .before .before .before .args in
+    let i = rw (c .before .before .before .before .before .before .before .before .before .before .before .before .before .l .given .1) at (c .before .before .before .before .before .before .before .before .before .before .before .before .before .before .before .reach .ensures) in
+    let w = c .before .before .before .before .before .send .ensures in
+    let f = c .before .f .given in
+    let stays = rw (f .1) at (w .stays) in
+    rw (stays .0, stays .1, stays .2) (refusing _ _ _ (a .out .now) refl (λ b g.
+    let v = open-at (a .s) h t (a .statuses .now) (a .status-tickets .now) b (a .conn) _ g i in
+    send-eq b (a .conn) (a .ticket) (a .r) (a .out .now) ∙ lend-long b (a .out .now) _ (c .before .before .before .before .before .before .before .before .before .before .before .before .before .before .before .before .if1 .left)
+    ∙ reach-open b (a .conn) (a .out .now) _ (v .book) (v .near) (v .is)
+    ∙ send-refused b (a .conn) (a .ticket) (a .r) (a .out .now) (v .book) _ (rw (f .1) at (w .meets (v .book) (v .agrees) .answer))))
+
+returns-5 : tie.Need-returns-5
+returns-5 c h t =
+    let a = c .before .before .before .before .before .before .before .before .before .before .before .before .before .before .before .before .before .before .args in
+    let i = rw (c .before .before .before .before .before .before .before .before .before .before .before .before .before .l .given .1) at (c .before .before .before .before .before .before .before .before .before .before .before .before .before .before .before .reach .ensures) in
+    let w = c .before .before .before .before .before .send .ensures in
+    let f = c .before .n .given in
+    let stays = rw (f .1) at (w .stays) in
+    rw (stays .0, stays .1) (record {
+      meets = λ b g.
+          let v = open-at (a .s) h t (a .statuses .now) (a .status-tickets .now) b (a .conn) _ g i in
+          let m = w .meets (v .book) (v .agrees) in
+          met _ _ _ _ _ b b
+          (send-eq b (a .conn) (a .ticket) (a .r) (a .out .now) ∙ lend-long b (a .out .now) _ (c .before .before .before .before .before .before .before .before .before .before .before .before .before .before .before .before .if1 .left)
+          ∙ reach-open b (a .conn) (a .out .now) _ (v .book) (v .near) (v .is)
+          ∙ send-unstored b (a .conn) (a .ticket) (a .r) (a .out .now) (v .book) _ _ _
+          (c .before .before .before .before .before .before .before .before .before .before .exp-cmd-sn .ensures h t (b .window) (g .window)) (c .before .before .before .before .before .before .before .before .before .max-cmd-sn .ensures h t (b .window) (g .window))
+          (m .bytes) _ (rw (f .1) at (m .answer))) g;
+      stays = tt;
+    })
+
+returns-6 : tie.Need-returns-6
+unfolding ConnAgrees
+returns-6 c h t =
+    let a = c .before .before .before .before .before .before .before .before .before .before .before .before .before .before .before .before .before .before .before .args in
+    let i = rw (c .before .before .before .before .before .before .before .before .before .before .before .before .before .before .l .given .1) at (c .before .before .before .before .before .before .before .before .before .before .before .before .before .before .before .before .reach .ensures) in
+    let w = c .before .before .before .before .before .before .send .ensures in
+    let f = c .before .before .stat-sn .given in
+    rw (c .with-ledger .ensures) (record {
+      meets = λ b g.
+          let v = open-at (a .s) h t (a .statuses .now) (a .status-tickets .now) b (a .conn) _ g i in
+          let m = w .meets (v .book) (v .agrees) in
+          met _ _ _ _ _ b _
+          (send-eq b (a .conn) (a .ticket) (a .r) (a .out .now) ∙ lend-long b (a .out .now) _ (c .before .before .before .before .before .before .before .before .before .before .before .before .before .before .before .before .before .if1 .left)
+          ∙ reach-open b (a .conn) (a .out .now) _ (v .book) (v .near) (v .is)
+          ∙ send-stored b (a .conn) (a .ticket) (a .r) (a .out .now) (v .book) _ _ _
+          (c .before .before .before .before .before .before .before .before .before .before .before .exp-cmd-sn .ensures h t (b .window) (g .window)) (c .before .before .before .before .before .before .before .before .before .before .max-cmd-sn .ensures h t (b .window) (g .window))
+          (m .bytes) _ (rw (f .1) at (m .answer)))
+          (conn-set (a .s) h t (a .statuses .now) (a .status-tickets .now) _ _ b (a .conn) _ _ g (v .near) (rw (f .1) at (m .agrees))
+          (λ j y q n z. w .others j y q n z) (w .headers-size (g .statuses-size)) (w .tickets-size (g .tickets-size)));
+      stays = tt;
+    })
+
+pub send-spec : {M : Type 1} → statement M
+send-spec =
+    tie.close (tie.spec
+    returns (λ c κs. search needs) (λ c. search needs) (λ c. search needs) (λ c. search needs) (λ c κs. search needs) (λ c κs. search needs)
+    send-requires (λ c. search needs) (λ c. search needs) (λ c. search needs) with-ledger-requires returns-2 returns-3 (λ c. search needs)
+    returns-4 (λ c. search needs) returns-5 (λ c. search needs) returns-6)
