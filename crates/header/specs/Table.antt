@@ -1,9 +1,10 @@
 -- A header as a table of fields: offset, width, unnamed bits too. What a table writes it also reads (proofs/Table): a second view of
 -- the headers, beside the definitions by offset in Request and Response.
-use Prim.Native.Nat.{ℕ, _+_, _*_, _/_, _%_, _^_, _<_}
-use mathlib.Core.Bool.{Bool, true, false, _&&_}
+use Prim.Native.Nat.{ℕ, suc, _+_, _*_, _/_, _%_, _^_, _<_}
+use mathlib.Core.Bool.{Bool, _&&_}
 use mathlib.Core.List.{List, [], _∷_, _++_}
 use lib.Dec.{eqb}
+use lib.ListN.{drop}
 use Rattle.header.specs.Field.{beAt, bytesOf}
 
 -- some bits of a row: a field, or bits that have no name
@@ -75,3 +76,38 @@ written (r ∷ rs) (vs ∷ vss) = bytesOf (r .size) (pack (r .bits) vs) ++ writt
 abbrev pub readBy : List Row → List ℕ → List (List ℕ)
 readBy [] s = []
 readBy (r ∷ rs) s = digits (r .bits) (beAt s (r .at) (r .size)) ∷ readBy rs s
+
+-- ---- the fields alone
+
+-- how many fields there are
+abbrev pub countIn : List Bits → ℕ
+countIn [] = 0
+countIn (field w ∷ bs) = suc (countIn bs)
+countIn (unnamed w ∷ bs) = countIn bs
+
+abbrev pub count : List Row → ℕ
+count [] = 0
+count (r ∷ rs) = countIn (r .bits) + count rs
+
+-- the values of the fields, in table order
+abbrev pub namedIn : List Bits → List ℕ → List ℕ
+namedIn [] vs = []
+namedIn (b ∷ bs) [] = []
+namedIn (field w ∷ bs) (v ∷ vs) = v ∷ namedIn bs vs
+namedIn (unnamed w ∷ bs) (v ∷ vs) = namedIn bs vs
+
+abbrev pub named : List Row → List (List ℕ) → List ℕ
+named [] vss = []
+named (r ∷ rs) [] = []
+named (r ∷ rs) (vs ∷ vss) = namedIn (r .bits) vs ++ named rs vss
+
+-- the values of the rows with these fields in order; "what isn't named is 0"
+abbrev pub filledIn : List Bits → List ℕ → List ℕ
+filledIn [] vs = []
+filledIn (field w ∷ bs) [] = 0 ∷ filledIn bs []
+filledIn (field w ∷ bs) (v ∷ vs) = v ∷ filledIn bs vs
+filledIn (unnamed w ∷ bs) vs = 0 ∷ filledIn bs vs
+
+abbrev pub filled : List Row → List ℕ → List (List ℕ)
+filled [] vs = []
+filled (r ∷ rs) vs = filledIn (r .bits) vs ∷ filled rs (drop (countIn (r .bits)) vs)
