@@ -1,16 +1,16 @@
 -- The steps of the code against the book's: a law for each guard and each outcome of the book's step, and for each change of
 -- the code's state that agreement survives.
-use Prim.Native.Nat.{ℕ, zero, suc, _+_, _-_, _*_, _%_, _^_, _≤_, _<_}
+use Prim.Native.Nat.{ℕ, zero, suc, _+_, _-_, _≤_, _<_}
 use mathlib.Core.Path.{_≡_, refl, sym, ap, ap₂, _∙_, subst}
-use mathlib.Core.Bool.{Bool, true, false, not, _&&_}
-use mathlib.Core.List.{List, [], _∷_, _++_}
+use mathlib.Core.Bool.{Bool, true, false}
+use mathlib.Core.List.{List, [], _++_}
 use native.Mathlib.Omega.{arith}
-use native.Mathlib.Decide.{ℕ-discrete, decLt}
+use native.Mathlib.Decide.{ℕ-discrete}
 use borrow.Author.Tests.{lt-ltb, le-ltb, le-leb, lt-leb, eq-eqb, ne-eqb}
-use lib.Dec.{ltb, leb, eqb}
+use lib.Dec.{ltb}
 use lib.ListN as ListN
 use lib.ListN.{length, getD, set, drop, replicate, length-set}
-use lib.Seq.{paste, take-all, getD-set-same, getD-set-other}
+use lib.Seq.{getD-set-same, getD-set-other}
 use Rattle.header.specs.Field.{pick}
 use Rattle.header.specs.Request.{limits, readPdu}
 use Rattle.header.specs.Request as Read
@@ -23,7 +23,7 @@ use Rattle.ledger.specs.Book as L
 use Rattle.ledger.specs.Agree as LA
 use Rattle.ledger.specs.declared.Ledger.{Ledger}
 use Rattle.session.specs.declared.Session.{Session}
-use Rattle.session.specs.Book.{Offered, denied, atOnce, numbered, Connection, closed, live, Book, Call, offer, take, logout, opening, send, acknowledge, snack, resend, windowNumbers, Answer, refused, immediate, opened, window, sent, acknowledged, run, resent, numbers, Step, step, connOf, withWindow, withConn, byWindow, onOpen, onConnection, lending, offerBy, offeredAs, connsLeft, loggedOut, logoutBy, openAt, sendAs, sendBy, acknowledgeBy, runStep, Asked, asked, deniedRun, from, snackBy, shown, resendBy, bookStep}
+use Rattle.session.specs.Book.{Offered, denied, atOnce, numbered, Connection, closed, live, Book, Call, offer, take, logout, opening, send, acknowledge, snack, resend, Answer, refused, immediate, opened, window, sent, acknowledged, run, resent, Step, step, connOf, withWindow, withConn, byWindow, onOpen, onConnection, lending, offerBy, offeredAs, connsLeft, loggedOut, logoutBy, openAt, sendAs, sendBy, acknowledgeBy, runStep, Asked, asked, deniedRun, from, snackBy, shown, resendBy, bookStep}
 use Rattle.session.specs.Agree.{State, state, noLedger, ledgerOf, ConnAgrees, Agrees, MeetsAt, lent, WindowStays, Stays, Did, IsOpen, withLedger, LeavesConns}
 
 -- ---- from the book's step, known whole

@@ -2,8 +2,8 @@
 -- contract that all calls share, `Did`.
 use Prim.Native.Nat.{ℕ, _*_, _<_, _≤_}
 use mathlib.Core.Path.{_≡_}
-use mathlib.Core.Bool.{Bool, true, false}
-use mathlib.Core.List.{List, [], _∷_}
+use mathlib.Core.Bool.{true, false}
+use mathlib.Core.List.{List, []}
 use lib.ListN.{length, getD, set, replicate}
 use Rattle.header.specs.Refusal.{number}
 use Rattle.store.specs.Slot.{headerSize}

@@ -1,6 +1,6 @@
 -- Paper 01, 'The book': what a fresh session is given, the count of hand-outs, the held numbers and the open ledgers; the
 -- calls, and the book's answer to each, from its own entries and the call's arguments alone.
-use Prim.Native.Nat.{ℕ, zero, suc}
+use Prim.Native.Nat.{ℕ}
 use mathlib.Core.Bool.{Bool, true, false, not, _&&_}
 use mathlib.Core.List.{List, [], _∷_, _++_}
 use lib.Dec.{ltb, leb, eqb}
@@ -9,7 +9,6 @@ use lib.ListN.{length, getD, set, drop, replicate}
 use Rattle.header.specs.Field.{pick}
 use Rattle.header.specs.Request.{limits, readPdu}
 use Rattle.header.specs.Request as Read
-use Rattle.header.specs.declared.request.Pdu.{Pdu}
 use Rattle.header.specs.declared.request.Request.{Request}
 use Rattle.header.specs.declared.request.Request.the-variants as Q
 use Rattle.header.specs.declared.response.Response.{Response}

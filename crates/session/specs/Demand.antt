@@ -4,7 +4,7 @@
 -- there.
 use Prim.Native.Nat.{ℕ, _+_, _-_, _%_, _^_, _<_, _≤_}
 use mathlib.Core.Path.{_≡_}
-use mathlib.Core.Bool.{Bool, true, false, not, _&&_, _||_}
+use mathlib.Core.Bool.{true, false, not}
 use mathlib.Core.List.{List, [], _∷_, _++_}
 use mathlib.Core.Logic.{_↔_, _⊎_}
 use lib.ListN.{length, getD, drop}
@@ -14,9 +14,9 @@ use Rattle.header.specs.declared.request.Pdu.{Pdu}
 use Rattle.store.specs.Slot.{headerSize}
 use Rattle.window.specs.Book as W
 use Rattle.ledger.specs.Book.{Status, missing, found}
-use Rattle.session.specs.Book.{Call, offer, take, resend, windowNumbers, Answer, refused, window, resent, numbers}
+use Rattle.session.specs.Book.{offer, take, resend, windowNumbers, Answer, refused, window, resent, numbers}
 use Rattle.session.specs.History.{Event}
-use Rattle.session.specs.Notions.{Effect, handsOut, effectOf, handOuts, next, distance, amongNext, amongLast, Latest, by, latestOffer, originOf, held, expCmdSN, maxCmdSN, voidedSince, keptOffers, emptied, heldNow, isOpen, lastSent, acknowledgedSince}
+use Rattle.session.specs.Notions.{Effect, handsOut, effectOf, handOuts, next, amongNext, amongLast, Latest, by, latestOffer, originOf, held, expCmdSN, maxCmdSN, voidedSince, keptOffers, emptied, heldNow, isOpen, lastSent, acknowledgedSince}
 
 -- In all that follows: f is the session's first number, v its ErrorRecoveryLevel, past what was done before the call (the
 -- effects of the calls before it, the newest first), and e the call with its answer and its lent output after it.

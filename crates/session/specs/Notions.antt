@@ -11,7 +11,7 @@ use Rattle.header.specs.Field.{pick}
 use Rattle.header.specs.Request.{limits, readPdu}
 use Rattle.header.specs.Request as Read
 use Rattle.store.specs.Slot.{headerSize}
-use Rattle.window.specs.Book.{Origin, connection, places}
+use Rattle.window.specs.Book.{Origin, connection, isFrom, places}
 use Rattle.window.specs.Book as W
 use Rattle.ledger.specs.Book.{Found, missing, found, isStatus}
 use Rattle.session.specs.Book.{Call, offer, take, logout, opening, send, acknowledge, snack, resend, windowNumbers, Answer, refused, immediate, opened, window, sent, acknowledged, run, resent, numbers}
@@ -174,10 +174,6 @@ latestOffer [] n = Latest.none
 latestOffer (x ∷ past) n = ifKeeps (λ m c t h. pick (same n m) (by c t h) (latestOffer past n)) (latestOffer past n) x
 
 -- The origin that it has: the connection of its latest kept offer, unless a logout with reason 2 of that connection came since.
-unfoldable pub isFrom : ℕ → Origin → Bool
-isFrom c W.none = false
-isFrom c (connection x) = eqb x c
-
 unfoldable pub originOf : (past : List Effect) → ℕ → Origin
 originOf [] n = W.none
 originOf (x ∷ past) n =

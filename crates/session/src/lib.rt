@@ -11,7 +11,6 @@ use ledger::LEDGER_SLOTS;
 use ledger::Ledger;
 use window::WINDOW_BYTES;
 use window::Window;
-ghost use mathlib.Core.Path.{_≡_};
 ghost use mathlib.Core.List.{List, []};
 ghost use Prim.Native.Nat.{ℕ};
 ghost use Rattle.session.specs.Book.{Call, Answer};

@@ -59,7 +59,7 @@ maxCmdSN b = (next b + (places - 1)) % 2 ^ 32
 
 -- "A fresh session is given its first number": nothing is held.
 unfoldable pub freshBook : (first : ℕ) → Book
-freshBook n = record { first = n; handed = zero; held = replicate places empty }
+freshBook n = record { first = n % 2 ^ 32; handed = zero; held = replicate places empty }
 
 -- An offer of a numbered command, a take with the output that it lends, the effect of a logout.
 pub data Call : Type 0 where
