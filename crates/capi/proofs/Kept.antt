@@ -65,9 +65,9 @@ unfolding sessionOf
 kept s hv ho hc =
     let o = getD (s .window .origins) 0 0 ∷ getD (s .window .origins) 1 0 ∷ getD (s .window .origins) 2 0 ∷ getD (s .window .origins) 3 0 ∷ [] in
     let e : (ledgerAt (openWord (at s 0 .«is_open»)) (at s 0 .next) (at s 0 .held)
-        ∷ ledgerAt (openWord (at s 1 .«is_open»)) (at s 1 .next) (at s 1 .held)
-        ∷ ledgerAt (openWord (at s 2 .«is_open»)) (at s 2 .next) (at s 2 .held)
-        ∷ ledgerAt (openWord (at s 3 .«is_open»)) (at s 3 .next) (at s 3 .held) ∷ []) ≡ s .conns =
+    ∷ ledgerAt (openWord (at s 1 .«is_open»)) (at s 1 .next) (at s 1 .held)
+    ∷ ledgerAt (openWord (at s 2 .«is_open»)) (at s 2 .next) (at s 2 .held)
+    ∷ ledgerAt (openWord (at s 3 .«is_open»)) (at s 3 .next) (at s 3 .held) ∷ []) ≡ s .conns =
     rw (open-back (at s 0 .«is_open»), open-back (at s 1 .«is_open»), open-back (at s 2 .«is_open»), open-back (at s 3 .«is_open»)) (four none (s .conns) hc) in
     ap (λ (c : List Ledger). made s (s .level % 2 ^ 8) o c) e
     ∙ ap (λ (v : ℕ). made s v o (s .conns)) (mod-eq-of-lt hv)

@@ -1,3 +1,4 @@
 pub mod Words
 pub mod Pdu
 pub mod State
+pub mod Answer
