@@ -1,23 +1,17 @@
 -- What one turn of a loop over a text does to the definitions that read it from the front.
-use mathlib.Core.Path.{_≡_, refl, sym, ap, _∙_, subst}
+use mathlib.Core.Path.{_≡_, refl, sym, ap, _∙_, ap₂}
 use mathlib.Core.Bool.{Bool, true, false, not, _&&_, _||_}
-use mathlib.Core.List.{List, [], _∷_, _++_}
+use mathlib.Core.List.{List, [], _∷_, _++_, append-assoc}
 use Prim.Native.Nat.{ℕ, zero, suc, _+_, _-_, _*_, _/_, _%_, _^_, _<_, _≤_}
 use native.Mathlib.Numerals.{add-one}
 use native.Mathlib.Omega.{arith}
-use native.Mathlib.Nat.{not-suc-le-zero, le-of-suc-le-suc, add-suc, suc-add, le-trans, mul-le-mul-left, mul-one, le-mul-of-pos-right}
-use borrow.Author.Tests.{eq-eqb, ne-eqb, eqb-true, eqb-false, lt-ltb, le-ltb, le-leb, lt-leb}
+use native.Mathlib.Nat.{not-suc-le-zero, le-of-suc-le-suc, mul-le-mul-left, div-lt-iff-lt-mul, le-div-iff-mul-le, add-assoc, zero-add}
+use borrow.Author.Tests.{eq-eqb, ne-eqb, eqb-true, eqb-false, lt-ltb, le-ltb, le-leb, leb-true, ltb-true}
 use lib.ListN.{length, getD, take, drop, set, drop-of-length-le, length-drop, length-set, length-append, take-append-drop}
 use lib.Seq.{drop-cons, drop-drop, take-all, getD-set-same, drop-set-lt}
-use mathlib.Core.List.{append-assoc}
-use mathlib.Core.Path.{ap₂}
 use lib.Dec.{eqb, ltb, leb, leb·suc-suc}
-use Rattle.text.specs.Text.{pick, before, after, has, same, all, items, onto, among, listed}
-use borrow.Author.Tests.{leb-true, ltb-true}
-use Rattle.text.specs.Block.{within, nameIn, valueIn, restOf, goodFirst, goodName, nameByte, upper, formed, empty, pairs, Pair, EndsOf}
-use native.Mathlib.Nat.{div-lt-iff-lt-mul, le-div-iff-mul-le}
-use native.Mathlib.Nat.{add-assoc, zero-add}
-use Rattle.text.specs.Text.{Appended}
+use Rattle.text.specs.Text.{pick, before, after, has, same, all, items, onto, listed, Appended}
+use Rattle.text.specs.Block.{within, nameIn, valueIn, restOf, goodFirst, goodName, formed, empty, EndsOf}
 use Rattle.text.specs.Number.{worth, digitOf, isDigit, numberIn, decimal}
 use Rattle.text.specs.declared.number.Number.the-variants.{Value, Bad}
 

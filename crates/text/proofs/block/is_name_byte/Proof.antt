@@ -7,4 +7,5 @@ unfolding nameByte
 returns c = cc
 
 pub is-name-byte-spec : {M : Type 1} → statement M
-is-name-byte-spec = tie.close (tie.spec returns)
+is-name-byte-spec = tie.close (tie.spec
+    returns)

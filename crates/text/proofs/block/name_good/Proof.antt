@@ -1,9 +1,8 @@
 use borrow.Author.Needs.{needs}
-use borrow.Author.Tests.{lt-ltb, le-ltb, le-leb, lt-leb, eq-eqb, ne-eqb}
+use borrow.Author.Tests.{le-leb, lt-leb, ne-eqb}
 use Rattle.text.proofs.Laws.{drop-end, &&-true}
 use Rattle.text.specs.Block.{goodName}
 use Rattle.text.specs.Text.{all}
-use mathlib.Core.Path.{_≡_, _∙_}
 use native.Mathlib.Omega.{arith}
 use lib.ListN.{length}
 use denote.Ref.{now}
@@ -19,9 +18,6 @@ returns-2 : tie.Need-returns-2
 unfolding goodName all
 returns-2 c = simp (le-leb _ _ (c .before .if1 .left), lt-leb _ _ (c .if2 .taken))
 
-shared-slice-read-a : tie.Need-shared-slice-read-a
-shared-slice-read-a c = search needs
-
 returns-3 : tie.Need-returns-3
 unfolding goodName all
 returns-3 c =
@@ -29,28 +25,12 @@ returns-3 c =
     let h : length s ≤ 2 = omega arith in
     simp (c .if3 .taken, drop-end s 2 h, &&-true)
 
-shared-slice-read-b : tie.Need-shared-slice-read-b
-shared-slice-read-b c = search needs
-
-is-name-byte-requires : tie.Need-is-name-byte-requires
-is-name-byte-requires c κs = search needs
-
-tail-good-requires : tie.Need-tail-good-requires
-tail-good-requires c κs = search needs
-
 returns-4 : tie.Need-returns-4
 unfolding goodName all
 returns-4 c = simp (le-leb _ _ (c .before .before .before .before .before .before .if1 .left), le-leb _ _ (c .before .before .before .before .before .if2 .left), ne-eqb _ _ (c .before .before .before .if3 .left), c .tail-good .ensures, c .before .is-name-byte .ensures)
 
 pub name-good-spec : {M : Type 1} → statement M
 name-good-spec =
-    tie.close
-    (tie.spec
-    returns
-    returns-2
-    shared-slice-read-a
-    returns-3
-    shared-slice-read-b
-    is-name-byte-requires
-    tail-good-requires
+    tie.close (tie.spec
+    returns returns-2 (λ c. search needs) returns-3 (λ c. search needs) (λ c κs. search needs) (λ c κs. search needs)
     returns-4)

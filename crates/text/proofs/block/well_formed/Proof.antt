@@ -1,14 +1,11 @@
 -- The invariant: after n good pairs, the form of what is left, at most 64 - n pairs, is the form of the whole. The measure is what is left.
-use mathlib.Core.Path.{_≡_, refl, sym, ap, _∙_, subst}
-use mathlib.Core.Bool.{Bool, true, false, not, _&&_, _||_}
-use mathlib.Core.List.{List, [], _∷_, _++_}
-use Prim.Native.Nat.{ℕ, zero, suc, _≤_, _<_, _-_, _+_, _*_, _^_, _/_, _%_}
+use mathlib.Core.Path.{_≡_, refl, sym, _∙_}
+use mathlib.Core.Bool.{true, false}
+use Prim.Native.Nat.{suc, _≤_, _<_, _-_, _+_}
 use native.Mathlib.Omega.{arith}
-use native.Mathlib.Numerals.{add-one}
 use borrow.Author.Needs.{needs}
-use borrow.Author.Tests.{lt-ltb, le-ltb, le-leb, lt-leb, eq-eqb, ne-eqb, not-true, not-false, eqb-true, eqb-false, leb-true, leb-false, ltb-true, ltb-false}
-use lib.ListN.{length, take, drop, getD, set, length-set, length-drop, length-append}
-use lib.Dec.{eqb, ltb, leb}
+use borrow.Author.Tests.{not-true, not-false}
+use lib.ListN.{length, drop, length-drop}
 use denote.Ref.{now}
 use Rattle.text.specs.Block.{formed, goodFirst, nameIn, valueIn}
 use Rattle.text.proofs.Laws.{formed-none, formed-bad, formed-step, formed-end, rest-part}

@@ -26,4 +26,5 @@ returns-4 c = rw (c .before .before .if1 .left, c .before .if2 .left, c .if3 .le
 
 pub digit-spec : {M : Type 1} → statement M
 digit-spec =
-    tie.close (tie.spec sub-result returns sub-result-2 returns-2 sub-result-3 returns-3 returns-4)
+    tie.close (tie.spec
+    sub-result returns sub-result-2 returns-2 sub-result-3 returns-3 returns-4)

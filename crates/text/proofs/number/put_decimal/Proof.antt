@@ -1,20 +1,15 @@
 -- The invariant: the digits of what is left, then those written, are the digits of n. The measure is what is left.
-use mathlib.Core.Path.{_≡_, refl, sym, ap, _∙_, subst}
-use mathlib.Core.Bool.{Bool, true, false, not, _&&_, _||_}
-use mathlib.Core.List.{List, [], _∷_, _++_}
-use Prim.Native.Nat.{ℕ, zero, suc, _≤_, _<_, _-_, _+_, _*_, _^_, _/_, _%_}
+use mathlib.Core.Path.{_≡_, refl, sym, _∙_}
+use mathlib.Core.List.{_++_, append-nil}
+use Prim.Native.Nat.{_≤_, _<_, _-_, _+_, _*_, _^_}
 use native.Mathlib.Omega.{arith}
 use native.Mathlib.Numerals.{add-one}
 use borrow.Author.Needs.{needs}
-use borrow.Author.Tests.{lt-ltb, le-ltb, le-leb, lt-leb, eq-eqb, ne-eqb, not-true, not-false, eqb-true, eqb-false, leb-true, leb-false, ltb-true, ltb-false}
-use lib.ListN.{length, take, drop, getD, set, length-set, length-drop, length-append}
-use lib.Dec.{eqb, ltb, leb}
-use denote.Ref.{now}
+use lib.ListN.{length, take, drop, set, length-set, length-drop}
 use native.Mathlib.Nat.{pow-suc}
-use mathlib.Core.List.{append-nil}
 use lib.Seq.{take-all}
 use Rattle.text.specs.Number.{decimal}
-use Rattle.text.proofs.Laws.{decimal-step, decimal-last, decimal-length, decimal-more, rest-part}
+use Rattle.text.proofs.Laws.{decimal-step, decimal-last, decimal-length, decimal-more}
 use Rattle.text.proofs.number.put_decimal.Statement.{statement}
 use Rattle.text.proofs.number.put_decimal.Tie as tie
 

@@ -1,11 +1,11 @@
 -- The invariant: out is what it was with b's first i bytes pasted at `at`.
-use mathlib.Core.Path.{_≡_, refl, sym, ap, _∙_}
+use mathlib.Core.Path.{_≡_, refl, ap, _∙_}
 use mathlib.Core.List.{List, _++_}
 use Prim.Native.Nat.{ℕ, suc, _≤_, _-_, _+_}
 use native.Mathlib.Omega.{arith}
 use native.Mathlib.Numerals.{add-one}
-use lib.ListN.{length, take, drop, length-set, set, getD}
-use lib.Seq.{paste, paste-zero, paste-suc, take-paste, drop-paste, take-length, take-all}
+use lib.ListN.{length, take, length-set, set, getD}
+use lib.Seq.{paste, paste-zero, paste-suc, take-paste, drop-paste, take-length}
 use denote.Ref.{now}
 use Rattle.text.proofs.slice.append.Statement.{statement}
 use Rattle.text.proofs.slice.append.Tie as tie

@@ -1,17 +1,14 @@
 -- The invariant: w is listed in what is left exactly if it is listed in the whole. The measure is what is left.
-use mathlib.Core.Path.{_≡_, refl, sym, ap, _∙_, subst}
-use mathlib.Core.Bool.{Bool, true, false, not, _&&_, _||_}
-use mathlib.Core.List.{List, [], _∷_, _++_}
-use Prim.Native.Nat.{ℕ, zero, suc, _≤_, _<_, _-_, _+_, _*_, _^_, _/_, _%_}
+use mathlib.Core.Path.{_≡_, refl, sym, ap, _∙_}
+use mathlib.Core.Bool.{true, false}
+use Prim.Native.Nat.{ℕ, _≤_, _<_, _-_, _+_}
 use native.Mathlib.Omega.{arith}
-use native.Mathlib.Numerals.{add-one}
 use borrow.Author.Needs.{needs}
-use borrow.Author.Tests.{lt-ltb, le-ltb, le-leb, lt-leb, eq-eqb, ne-eqb, not-true, not-false, eqb-true, eqb-false, leb-true, leb-false, ltb-true, ltb-false}
-use lib.ListN.{length, take, drop, getD, set, length-set, length-drop, length-append}
-use lib.Dec.{eqb, ltb, leb}
+use borrow.Author.Tests.{lt-ltb, le-ltb}
+use lib.ListN.{length, drop, length-drop}
 use denote.Ref.{now}
 use lib.Seq.{length-take-le, drop-drop}
-use Rattle.text.specs.Text.{listed, same, before, after, has}
+use Rattle.text.specs.Text.{listed, same, before, after}
 use Rattle.text.proofs.Laws.{listed-hit, listed-last, listed-step, listed-empty, rest-part, has-before, take-before, drop-before, drop-end}
 use Rattle.text.proofs.slice.lists.Statement.{statement}
 use Rattle.text.proofs.slice.lists.Tie as tie

@@ -1,9 +1,8 @@
 -- The invariant: what is left of the two compares as the whole does.
 use mathlib.Core.Path.{_≡_, refl, sym, _∙_}
-use Prim.Native.Nat.{_≤_, _-_, _+_}
+use Prim.Native.Nat.{_≤_, _-_}
 use native.Mathlib.Omega.{arith}
 use lib.ListN.{length, drop}
-use denote.Ref.{now}
 use Rattle.text.specs.Text.{same}
 use Rattle.text.proofs.Laws.{same-step, same-miss, same-end, same-lengths}
 use Rattle.text.proofs.slice.same_bytes.Statement.{statement}
