@@ -1,16 +1,17 @@
 -- The gather area: what is joined, judged and put back.
-use mathlib.Core.Path.{_≡_, refl, sym, ap, _∙_}
-use mathlib.Core.Bool.{Bool, true, false, not, _&&_}
+use mathlib.Core.Path.{_≡_, refl, ap, _∙_}
+use mathlib.Core.Bool.{Bool, true, false}
 use mathlib.Core.List.{List, [], _∷_, _++_, append-assoc}
-use Prim.Native.Nat.{ℕ, _+_, _<_, _≤_}
+use Prim.Native.Nat.{ℕ, zero, suc, _+_, _<_, _≤_}
 use native.Mathlib.Omega.{arith}
-use borrow.Author.Tests.{ne-eqb, ltb-false}
-use lib.ListN.{length, drop, take, length-append, length-drop, take-append-drop}
+use borrow.Author.Tests.{ne-eqb, ltb-false, leb-true}
+use lib.ListN.{length, getD, drop, take, length-append, length-drop, take-append-drop}
 use lib.Seq.{take-at, drop-at, length-take-le, take-add}
-use lib.Dec.{eqb, ltb, lit≤}
+use lib.Dec.{leb}
 use Rattle.text.specs.Text.{pick}
+use Rattle.text.proofs.Laws.{below, at}
 use Rattle.header.specs.declared.request.Login.{Login}
-use Rattle.login.specs.Login.{statusOf, differs, permitted, blockOf, joined, start}
+use Rattle.login.specs.Login.{Check, check, checks, firstBroken, statusOf, blockOf, joined}
 use Rattle.login.specs.Code.{Joined}
 use Rattle.login.specs.declared.state.State.{State}
 
@@ -48,7 +49,19 @@ pick-false : (b : Bool) (k x : ℕ) → 1 ≤ k → pick b k x ≡ 0 → b ≡ f
 pick-false true k x h e = absurd (omega arith)
 pick-false false k x h e = refl
 
+-- a rule whose status is not 0 is kept where the first broken rule's status is 0
+kept : (cs : List Check) (k : ℕ) → firstBroken cs ≡ 0 → ((i : ℕ) → i < length cs → 1 ≤ getD cs i (check false 1) .status) → getD cs k (check false 1) .broken ≡ false
+kept [] k e h = refl
+kept (c ∷ cs) zero e h = pick-false (c .broken) (c .status) (firstBroken cs) (h 0 (omega arith)) e
+kept (c ∷ cs) (suc k) e h = kept cs k (pick-zero (c .broken) (c .status) (firstBroken cs) (h 0 (omega arith)) e) (λ i p. h (suc i) (omega arith))
+
+loud : State → Login → ℕ → ℕ → ℕ → Bool
+loud l q n live i = leb 1 (getD (checks l q n live) i (check false 1) .status)
+
+all-loud : (l : State) (q : Login) (n live : ℕ) → below (loud l q n live) 8 ≡ true
+unfolding loud
+all-loud l q n live = refl
+
 pub status-fits : (l : State) (q : Login) (n live : ℕ) → statusOf l q n live ≡ 0 → l .gathered + n ≤ 8192
-unfolding statusOf
-status-fits l q n live e =
-    ltb-false 8192 (l .gathered + n) (pick-false _ 0x0200 0 (lit≤ tt) (pick-zero _ 0x0200 _ (lit≤ tt) (pick-zero _ 0x0200 _ (lit≤ tt) (pick-zero _ 0x0200 _ (lit≤ tt) (pick-zero _ 0x0200 _ (lit≤ tt) (pick-zero _ 0x0200 _ (lit≤ tt) (pick-zero _ 0x020a _ (lit≤ tt) (pick-zero _ 0x0205 _ (lit≤ tt) e))))))))
+unfolding statusOf loud
+status-fits l q n live e = ltb-false 8192 (l .gathered + n) (kept (checks l q n live) 7 e (λ i p. leb-true _ _ (at (loud l q n live) 8 (all-loud l q n live) i p)))

@@ -1,11 +1,11 @@
 -- One turn of the loop that judges the pairs of a block.
 use mathlib.Core.Path.{_≡_, refl, sym, ap, _∙_, subst}
-use mathlib.Core.Bool.{Bool, true, false}
+use mathlib.Core.Bool.{Bool, true}
 use mathlib.Core.List.{List, [], _∷_, _++_}
 use Prim.Native.Nat.{ℕ, zero, suc, _+_, _<_, _≤_}
 use native.Mathlib.Omega.{arith}
 use lib.ListN.{length, drop, take}
-use Rattle.text.specs.Block.{Pair, nameIn, valueIn, restOf, goodFirst, formed, pairs}
+use Rattle.text.specs.Block.{nameIn, valueIn, restOf, goodFirst, formed, pairs}
 use Rattle.text.proofs.Laws.{rest-at, some, none, &&-left, &&-right, false-true}
 use Rattle.keys.specs.Table.{keyOf}
 use Rattle.keys.specs.Judge.{after}

@@ -73,26 +73,42 @@ permitted from to =
 abbrev pub differs : State → Login → Bool
 differs l q = (not (eqb (q .isid) (l .isid)) || not (eqb (q .tsih) (l .tsih))) || not (eqb (q .cid) (l .cid))
 
--- the checks in order, for a request with n bytes of data: the status of the first broken rule, 0 if none is broken
-unfoldable pub statusOf : State → Login → ℕ → ℕ → ℕ
-statusOf l q n live =
+-- a rule that a request may break, and the status that refuses it then
+pub record Check : Type 0 where
+  pub broken : Bool
+  pub status : ℕ
+
+abbrev pub check : Bool → ℕ → Check
+check b s = record { broken = b; status = s }
+
+-- Checks in order, 0x0200 where no status is shown; for a request with n bytes of data, at the handle of the live session
+abbrev pub checks : State → Login → ℕ → ℕ → List Check
+checks l q n live =
     -- Version-min above 0
-    pick (ltb 0 (q .«version_min»)) 0x0205
-    -- TSIH neither 0 nor the live session's handle
-    (pick (not (eqb (q .tsih) 0) && not (eqb (q .tsih) live)) 0x020a
+    check (ltb 0 (q .«version_min»)) 0x0205
+    -- TSIH neither 0 nor the live session's handle that the caller gives
+    ∷ check (not (eqb (q .tsih) 0) && not (eqb (q .tsih) live)) 0x020a
     -- ISID, TSIH or CID differing from the first request
-    (pick (l .begun && differs l q) 0x0200
+    ∷ check (l .begun && differs l q) 0x0200
     -- C and T both set
-    (pick (q .continues && q .transit) 0x0200
+    ∷ check (q .continues && q .transit) 0x0200
     -- CSG not the stage
-    (pick (l .begun && not (eqb (q .csg) (l .stage))) 0x0200
-    -- at start: not 0 or 1
-    (pick (not (l .begun) && not (permitted start (q .csg))) 0x0200
+    ∷ check (l .begun && not (eqb (q .csg) (l .stage))) 0x0200
+    -- (at start: not 0 or 1)
+    ∷ check (not (l .begun) && not (permitted start (q .csg))) 0x0200
     -- T set and the step not permitted
-    (pick (q .transit && not (permitted (q .csg) (q .nsg))) 0x0200
+    ∷ check (q .transit && not (permitted (q .csg) (q .nsg))) 0x0200
     -- gathered text above 8,192 bytes
-    (pick (ltb 8192 (l .gathered + n)) 0x0200
-    0)))))))
+    ∷ check (ltb 8192 (l .gathered + n)) 0x0200
+    ∷ []
+
+-- the status of the first broken rule; 0 where none is broken
+abbrev pub firstBroken : List Check → ℕ
+firstBroken [] = 0
+firstBroken (c ∷ cs) = pick (c .broken) (c .status) (firstBroken cs)
+
+unfoldable pub statusOf : State → Login → ℕ → ℕ → ℕ
+statusOf l q n live = firstBroken (checks l q n live)
 
 -- ---- gathering
 

@@ -37,7 +37,15 @@ pub struct First {
     pub end: usize,
 }
 
-fn judge_first(s: Settled, stage: u8, leading: bool, ours: &[u8], rest: &[u8], out: &mut [u8], at: usize) -> First
+fn judge_first(
+    s: Settled,
+    stage: u8,
+    leading: bool,
+    ours: &[u8],
+    rest: &[u8],
+    out: &mut [u8],
+    at: usize,
+) -> First
     requires { ⌜ (goodFirst (now rest) ≡ true) × (at + 78 ≤ length (now out)) ⌝ }
     ensures { λ r. ⌜ FirstOf s stage leading (now (ours .entry)) (now (rest .entry)) (now (out .entry)) at r (now (out .exit)) ⌝ }
 {
@@ -71,7 +79,15 @@ pub struct Judged {
 }
 
 // A block whose form is good; its answer is put after the first `start` bytes of the output.
-pub fn judge_block(s: Settled, stage: u8, leading: bool, ours: &[u8], block: &[u8], out: &mut [u8], start: usize) -> Judged
+pub fn judge_block(
+    s: Settled,
+    stage: u8,
+    leading: bool,
+    ours: &[u8],
+    block: &[u8],
+    out: &mut [u8],
+    start: usize,
+) -> Judged
     requires { ⌜ (formed 64 (now block) ≡ true) × (start + 4992 ≤ length (now out)) ⌝ }
     ensures { λ r. ⌜ JudgedAs (judge stage leading (now (ours .entry)) s (take start (now (out .entry))) (pairs 64 (now (block .entry)))) (r .settled) (r .verdict) (now (out .exit)) ⌝ }
 {

@@ -13,11 +13,26 @@ const START: u8 = 4;
 
 // The permitted steps: a row for each of the stages 0 to 3 and for the start, a column for the stage that is stepped to.
 const STEPS: [bool; 20] = [
-    false, true, false, true,
-    false, false, false, true,
-    false, false, false, false,
-    false, false, false, false,
-    true, true, false, false,
+    false,
+    true,
+    false,
+    true,
+    false,
+    false,
+    false,
+    true,
+    false,
+    false,
+    false,
+    false,
+    false,
+    false,
+    false,
+    false,
+    true,
+    true,
+    false,
+    false,
 ];
 
 fn step_permitted(from: u8, to: u8) -> bool

@@ -76,7 +76,15 @@ fn undo(gather: &mut [u8], at: usize, n: usize, kept: &[u8])
 }
 
 // The last piece after gathered bytes.
-fn judge_gathered(l: State, q: Login, piece: &[u8], new: u16, ours: &[u8], gather: &mut [u8], text: &mut [u8]) -> Step
+fn judge_gathered(
+    l: State,
+    q: Login,
+    piece: &[u8],
+    new: u16,
+    ours: &[u8],
+    gather: &mut [u8],
+    text: &mut [u8],
+) -> Step
     requires { ⌜ (8192 ≤ length (now gather)) × (8192 ≤ length (now text)) × (l .gathered + length (now piece) ≤ 8192) × (l .gathered ≡ 0 → ⊥) ⌝ }
     ensures { λ r. ⌜ _≡_ {A = Outcome} (record { state = r .state; answer = answerOf (r .answer) (now (text .exit)); gather = now (gather .exit); text = now (text .exit) }) (judgeStep l q new (now (ours .entry)) (now (piece .entry)) (now (gather .entry)) (now (text .entry))) ⌝ }
 {
@@ -93,7 +101,15 @@ fn judge_gathered(l: State, q: Login, piece: &[u8], new: u16, ours: &[u8], gathe
 }
 
 // A request without C: its block is judged and answered.
-pub fn judge_request(l: State, q: Login, piece: &[u8], new: u16, ours: &[u8], gather: &mut [u8], text: &mut [u8]) -> Step
+pub fn judge_request(
+    l: State,
+    q: Login,
+    piece: &[u8],
+    new: u16,
+    ours: &[u8],
+    gather: &mut [u8],
+    text: &mut [u8],
+) -> Step
     requires { ⌜ (8192 ≤ length (now gather)) × (8192 ≤ length (now text)) × (l .gathered + length (now piece) ≤ 8192) ⌝ }
     ensures { λ r. ⌜ _≡_ {A = Outcome} (record { state = r .state; answer = answerOf (r .answer) (now (text .exit)); gather = now (gather .exit); text = now (text .exit) }) (judgeStep l q new (now (ours .entry)) (now (piece .entry)) (now (gather .entry)) (now (text .entry))) ⌝ }
 {

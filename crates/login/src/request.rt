@@ -32,7 +32,16 @@ fn refuse(l: State, why: Refusal) -> Step
 }
 
 // A Login request with this data.
-fn request_step(l: State, q: Login, piece: &[u8], live: u16, new: u16, ours: &[u8], gather: &mut [u8], text: &mut [u8]) -> Step
+fn request_step(
+    l: State,
+    q: Login,
+    piece: &[u8],
+    live: u16,
+    new: u16,
+    ours: &[u8],
+    gather: &mut [u8],
+    text: &mut [u8],
+) -> Step
     requires { ⌜ (8192 ≤ length (now gather)) × (8192 ≤ length (now text)) ⌝ }
     ensures { λ r. ⌜ _≡_ {A = Outcome} (record { state = r .state; answer = answerOf (r .answer) (now (text .exit)); gather = now (gather .exit); text = now (text .exit) }) (requestStep l q (now (piece .entry)) live new (now (ours .entry)) (now (gather .entry)) (now (text .entry))) ⌝ }
 {
@@ -52,7 +61,16 @@ fn request_step(l: State, q: Login, piece: &[u8], live: u16, new: u16, ours: &[u
 }
 
 // A request that was read.
-fn kind_step(l: State, r: Request, piece: &[u8], live: u16, new: u16, ours: &[u8], gather: &mut [u8], text: &mut [u8]) -> Step
+fn kind_step(
+    l: State,
+    r: Request,
+    piece: &[u8],
+    live: u16,
+    new: u16,
+    ours: &[u8],
+    gather: &mut [u8],
+    text: &mut [u8],
+) -> Step
     requires { ⌜ (8192 ≤ length (now gather)) × (8192 ≤ length (now text)) ⌝ }
     ensures { λ s. ⌜ _≡_ {A = Outcome} (record { state = s .state; answer = answerOf (s .answer) (now (text .exit)); gather = now (gather .exit); text = now (text .exit) }) (kindStep r l (now (piece .entry)) live new (now (ours .entry)) (now (gather .entry)) (now (text .entry))) ⌝ }
 {
@@ -68,7 +86,15 @@ fn kind_step(l: State, r: Request, piece: &[u8], live: u16, new: u16, ours: &[u8
 
 // One request of a login: `pdu` whole, the handle of the live session (0 for none), the new handle, our target name, the gather area
 // that this login uses, and the text output.
-pub fn login_request(l: State, pdu: &[u8], live: u16, new: u16, ours: &[u8], gather: &mut [u8], text: &mut [u8]) -> Step
+pub fn login_request(
+    l: State,
+    pdu: &[u8],
+    live: u16,
+    new: u16,
+    ours: &[u8],
+    gather: &mut [u8],
+    text: &mut [u8],
+) -> Step
     ensures { λ r. ⌜ _≡_ {A = Outcome} (record { state = r .state; answer = answerOf (r .answer) (now (text .exit)); gather = now (gather .exit); text = now (text .exit) }) (loginStep l (now (pdu .entry)) live new (now (ours .entry)) (now (gather .entry)) (now (text .entry))) ⌝ }
 {
     if gather.len() < MAX_TEXT {

@@ -2,22 +2,16 @@ use Rattle.text.specs.Block.{formed, pairs}
 use Rattle.text.proofs.Laws.{rest-part}
 use Rattle.login.specs.Block.{judge}
 use Rattle.login.proofs.Blocks.{pairs-end, formed-more, formed-good, formed-rest, turn-stop, turn-on}
-use mathlib.Core.Path.{_≡_, refl, sym, ap, _∙_, subst}
-use mathlib.Core.Bool.{Bool, true, false, not, _&&_, _||_}
-use mathlib.Core.List.{List, [], _∷_, _++_}
-use Prim.Native.Nat.{ℕ, zero, suc, _≤_, _<_, _-_, _+_, _*_, _^_, _/_, _%_}
+use mathlib.Core.Path.{_≡_, refl, sym, _∙_}
+use mathlib.Core.Bool.{true}
+use mathlib.Core.List.{[]}
+use Prim.Native.Nat.{suc, _≤_, _<_, _-_, _+_, _*_}
 use native.Mathlib.Omega.{arith}
-use native.Mathlib.Numerals.{add-one}
-use borrow.Author.Tests.{lt-ltb, le-ltb, le-leb, lt-leb, eq-eqb, ne-eqb, not-true, not-false, eqb-true, eqb-false, leb-true, leb-false, ltb-true, ltb-false}
-use lib.ListN.{length, take, drop, getD, set, length-set, length-drop, length-append}
-use lib.Dec.{eqb, ltb, leb}
+use lib.ListN.{length, take, drop, length-drop}
 use denote.Ref.{now}
 use borrow.Author.Needs.{needs}
 use Rattle.login.proofs.block.judge_block.Statement.{statement}
 use Rattle.login.proofs.block.judge_block.Tie as tie
-use Rattle.login.proofs.block.judge_block.Reads as reads
-use Rattle.login.proofs.block.judge_block.Lts as lts
-use Rattle.login.proofs.block.judge_first.Reads as judge-first-reads
 
 abbrev Inv-loop : tie.InvT-loop
 Inv-loop s stage leading ours block out₀ start t₀ count₀ at₀ n₀ out t count at n =
@@ -27,42 +21,34 @@ Inv-loop s stage leading ours block out₀ start t₀ count₀ at₀ n₀ out t 
 abbrev μ-loop : tie.MeasureT-loop
 μ-loop s stage leading ours block out₀ start t₀ count₀ at₀ n₀ out t count at n = length block - at
 
--- src/block.rt:82:5
 loop-holds : tie.Need-loop-holds Inv-loop μ-loop
 loop-holds c = (omega arith, omega arith, refl, omega arith, c .before .before .before .pre .0, refl)
 
--- src/block.rt:83:54
 sub-judge-first : tie.Need-sub-judge-first Inv-loop μ-loop
 sub-judge-first c = search needs
 
--- src/block.rt:83:54
 part-judge-first-start : tie.Need-part-judge-first-start Inv-loop μ-loop
 part-judge-first-start c = search needs
 
--- src/block.rt:83:54
 part-judge-first-end : tie.Need-part-judge-first-end Inv-loop μ-loop
 part-judge-first-end c = search needs
 
--- src/block.rt:83:13
 judge-first-requires : tie.Need-judge-first-requires Inv-loop μ-loop
-judge-first-requires c κs = 
+judge-first-requires c κs =
     let l = c .before .before .before .loop in
     let g = c .before .before .before .before .before .before .before in
     let b = now (g .args .block) in
     let m : 1 ≤ 64 - l .n = formed-more b (l .at) (omega arith) (64 - l .n) (l .inv .4) in
     (rw rest-part (formed-good b (l .at) (omega arith) (64 - l .n) (l .inv .4)), omega (arith, m, g .pre .1, l .inv .2, l .inv .3))
 
--- src/block.rt:86:25
 enum-known-stop : tie.Need-enum-known-stop Inv-loop μ-loop
 enum-known-stop c = search needs
 
--- src/block.rt:87:17
 same-length : tie.Need-same-length Inv-loop μ-loop
 same-length c = omega (arith, c .before .before .before .before .before .judge-first .kept, c .before .before .before .before .before .before .before .before .before .loop .inv .2)
 
--- src/block.rt:87:17
 returns : tie.Need-returns Inv-loop μ-loop
-returns c = 
+returns c =
     let l = c .before .before .before .before .before .before .before .before .before .loop in
     let a = c .before .before .before .before .before .before .before .before .before .before .before .before .before .args in
     let b = now (a .block) in
@@ -75,7 +61,6 @@ returns c =
       few = omega arith;
     }
 
--- src/block.rt:93:21
 enum-told : tie.Need-enum-told Inv-loop μ-loop
 enum-told c = search needs
 
@@ -88,21 +73,17 @@ inside c =
 add-at : tie.Need-add-at Inv-loop μ-loop
 add-at c = omega (arith, inside c, c .before .before .before .before .before .before .before .before .before .before .before .before .before .before .good .1 .1 .1 .1 .0)
 
--- src/block.rt:96:22
 add-at-2 : tie.Need-add-at-2 Inv-loop μ-loop
 add-at-2 c = omega (arith, inside c, c .before .before .before .before .before .before .before .before .before .before .before .before .before .before .good .1 .1 .1 .1 .0)
 
--- src/block.rt:97:17
 add-n : tie.Need-add-n Inv-loop μ-loop
 add-n c = search needs
 
--- src/block.rt:82:5
 loop-less : tie.Need-loop-less Inv-loop μ-loop
 loop-less c = omega (arith, inside c, c .before .before .before .before .before .before .before .before .before .before .before .before .before .before .good .1 .1 .1 .1 .0)
 
--- src/block.rt:82:5
 loop-again : tie.Need-loop-again Inv-loop μ-loop
-loop-again c = 
+loop-again c =
     let l = c .before .before .before .before .before .before .before .before .before .before .loop in
     let a = c .before .before .before .before .before .before .before .before .before .before .before .before .before .before .args in
     let b = now (a .block) in
@@ -110,19 +91,21 @@ loop-again c =
     let g = c .before .before .before .before .before .before .judge-first .result in
     let h : l .at < length b = omega arith in
     let m : 1 ≤ 64 - l .n = formed-more b (l .at) h (64 - l .n) (l .inv .4) in
-    let n : 64 - l .n ≡ suc (64 - (l .n + 1)) = omega arith in
-    (omega (arith, inside c), omega arith, omega (arith, c .before .before .before .before .before .before .judge-first .kept, l .inv .2), omega (arith, f .few, l .inv .3),
-    formed-rest b (l .at) h (64 - (l .n + 1)) (g .end) (f .ended) (rw n at (l .inv .4)),
-    rw (f .text .text, f .settles) (sym (turn-on (a .stage) (a .leading) (now (a .ours)) (l .t) (take (l .count) (l .out)) b (l .at) (64 - (l .n + 1)) (g .end) h (f .ended) (sym (f .stops) ∙ c .before .before .enum-told .given .1)) ∙ rw n at (l .inv .5)))
+    let n : 64 - l .n ≡ suc (64 - (l .n + 1)) = omega arith in (
+      omega (arith, inside c),
+      omega arith,
+      omega (arith, c .before .before .before .before .before .before .judge-first .kept, l .inv .2),
+      omega (arith, f .few, l .inv .3),
+      formed-rest b (l .at) h (64 - (l .n + 1)) (g .end) (f .ended) (rw n at (l .inv .4)),
+      rw (f .text .text, f .settles) (sym (turn-on (a .stage) (a .leading) (now (a .ours)) (l .t) (take (l .count) (l .out)) b (l .at) (64 - (l .n + 1)) (g .end) h (f .ended) (sym (f .stops) ∙ c .before .before .enum-told .given .1)) ∙ rw n at (l .inv .5)),
+    )
 
--- src/block.rt:74:1
 same-length-2 : tie.Need-same-length-2 Inv-loop μ-loop
 same-length-2 c = c .before .loop .inv .2
 
--- src/block.rt:74:1
 returns-2 : tie.Need-returns-2 Inv-loop μ-loop
 unfolding judge
-returns-2 c = 
+returns-2 c =
     let l = c .before .loop in
     let g = c .before .before .before .before .before in
     let e : pairs (64 - l .n) (drop (l .at) (now (g .args .block))) ≡ [] = pairs-end (now (g .args .block)) (l .at) (64 - l .n) (omega arith) in

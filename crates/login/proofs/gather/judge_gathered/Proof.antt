@@ -1,95 +1,44 @@
-use mathlib.Core.Path.{_≡_, refl, sym, ap, _∙_, subst}
-use mathlib.Core.Bool.{Bool, true, false, not, _&&_, _||_}
-use mathlib.Core.List.{List, [], _∷_, _++_}
-use Prim.Native.Nat.{ℕ, zero, suc, _≤_, _<_, _-_, _+_, _*_, _^_, _/_, _%_}
+use Rattle.login.specs.Login.{judgeStep}
+use Rattle.login.proofs.Area.{block-is, back}
+use Rattle.login.proofs.Answers.{outcome-refused, outcome-answered}
+use mathlib.Core.Path.{_≡_, sym, _∙_}
+use mathlib.Core.List.{_++_}
+use Prim.Native.Nat.{_≤_, _-_, _+_}
 use native.Mathlib.Omega.{arith}
-use native.Mathlib.Numerals.{add-one}
-use borrow.Author.Tests.{lt-ltb, le-ltb, le-leb, lt-leb, eq-eqb, ne-eqb, not-true, not-false, eqb-true, eqb-false, leb-true, leb-false, ltb-true, ltb-false}
-use lib.ListN.{length, take, drop, getD, set, length-set, length-drop, length-append}
-use lib.Dec.{eqb, ltb, leb}
+use borrow.Author.Tests.{ne-eqb}
+use lib.ListN.{length, take}
 use denote.Ref.{now}
 use borrow.Author.Needs.{needs}
 use Rattle.login.proofs.gather.judge_gathered.Statement.{statement}
 use Rattle.login.proofs.gather.judge_gathered.Tie as tie
-use Rattle.login.proofs.gather.judge_gathered.Reads as reads
-use Rattle.login.proofs.gather.judge_gathered.Lts as lts
-use Rattle.login.proofs.answer.judge_text.Reads as judge-text-reads
-use Rattle.login.proofs.gather.block_of.Reads as block-of-reads
-use Rattle.login.proofs.gather.join.Reads as join-reads
-use Rattle.login.proofs.gather.undo.Reads as undo-reads
-use Rattle.login.proofs.state.is_refused.Reads as is-refused-reads
 
--- src/gather.rt:83:14
-cast-at : tie.Need-cast-at
-cast-at c = search needs
-
--- src/gather.rt:85:41
-slice-aggregate-join : tie.Need-slice-aggregate-join
-slice-aggregate-join c = search needs
-
--- src/gather.rt:85:9
-join-requires : tie.Need-join-requires
-join-requires c κs = search needs
-
--- src/gather.rt:86:41
-block-of-requires : tie.Need-block-of-requires
-block-of-requires c κs = search needs
-
--- src/gather.rt:86:9
-judge-text-requires : tie.Need-judge-text-requires
-judge-text-requires c κs = search needs
-
--- src/gather.rt:88:8
-is-refused-requires : tie.Need-is-refused-requires
-is-refused-requires c κs = search needs
-
--- src/gather.rt:89:39
-slice-aggregate-undo : tie.Need-slice-aggregate-undo
-slice-aggregate-undo c = search needs
-
--- src/gather.rt:89:9
 undo-requires : tie.Need-undo-requires
-undo-requires c κs = ?
+undo-requires c κs = (omega (arith, c .before .before .before .before .before .before .before .before .before .before .before .before .before .before .before .before .before .before .before .before .before .pre, c .before .before .before .before .before .before .before .before .before .before .before .before .before .join .kept .0), omega (arith, c .before .before .before .before .before .before .before .before .before .before .before .before .before .before .before .before .before .before .before .before .before .pre, c .before .before .before .before .before .before .before .before .before .before .before .before .before .join .kept .1 .1 .1 .0))
 
--- src/gather.rt:90:9
-same-length : tie.Need-same-length
-same-length c = search needs
-
--- src/gather.rt:90:9
-same-length-2 : tie.Need-same-length-2
-same-length-2 c = search needs
-
--- src/gather.rt:90:9
 returns : tie.Need-returns
-returns c = ?
+unfolding judgeStep
+returns c =
+    let a = c .before .before .before .before .before .before .before .before .before .before .before .before .before .before .before .before .before .before .before .before .before .before .before .before .args in
+    let j = c .before .before .before .before .before .before .before .before .before .before .before .before .before .before .before .before .join in
+    let fit : a .l .gathered + length (now (a .piece)) ≤ length (now (a .gather)) = omega (arith, c .before .before .before .before .before .before .before .before .before .before .before .before .before .before .before .before .before .before .before .before .before .before .before .before .pre) in
+    let k : c .before .before .before .before .before .before .before .before .before .before .before .block-of .result .now ≡ take (a .l .gathered) (now (a .gather)) ++ now (a .piece) = c .before .before .before .before .before .before .before .before .before .before .before .block-of .ensures ∙ block-is (now (a .gather)) (a .l .gathered) (now (a .piece)) fit _ _ _ (j .ensures) (c .before .before .before .before .before .before .before .before .before .before .before .before .before .before .before .before .before .before .before .before .before .before .before .before .pre .3) in
+    rw (ne-eqb _ 0 (c .before .before .before .before .before .before .before .before .before .before .before .before .before .before .before .before .before .before .before .before .before .before .before .before .pre .3))
+    (outcome-refused _ (c .before .before .before .before .before .before .before .before .before .judge-text .result .answer) _ _ _ _ _ (rw k at (c .before .before .before .before .before .before .before .before .before .judge-text .ensures)) (sym (c .before .before .before .before .before .before .is-refused .ensures) ∙ c .before .before .before .before .before .if1 .taken)
+    (c .before .before .undo .ensures ∙ back (now (a .gather)) (a .l .gathered) (now (a .piece)) fit _ _ _ (j .ensures)))
 
--- src/gather.rt:79:1
-same-length-3 : tie.Need-same-length-3
-same-length-3 c = search needs
-
--- src/gather.rt:79:1
-same-length-4 : tie.Need-same-length-4
-same-length-4 c = search needs
-
--- src/gather.rt:79:1
 returns-2 : tie.Need-returns-2
-returns-2 c = ?
+unfolding judgeStep
+returns-2 c =
+    let a = c .before .before .before .before .before .before .before .before .before .before .before .before .before .before .before .before .before .before .before .args in
+    let j = c .before .before .before .before .before .before .before .before .before .before .before .join in
+    let fit : a .l .gathered + length (now (a .piece)) ≤ length (now (a .gather)) = omega (arith, c .before .before .before .before .before .before .before .before .before .before .before .before .before .before .before .before .before .before .before .pre) in
+    let k : c .before .before .before .before .before .before .block-of .result .now ≡ take (a .l .gathered) (now (a .gather)) ++ now (a .piece) = c .before .before .before .before .before .before .block-of .ensures ∙ block-is (now (a .gather)) (a .l .gathered) (now (a .piece)) fit _ _ _ (j .ensures) (c .before .before .before .before .before .before .before .before .before .before .before .before .before .before .before .before .before .before .before .pre .3) in
+    rw (ne-eqb _ 0 (c .before .before .before .before .before .before .before .before .before .before .before .before .before .before .before .before .before .before .before .pre .3))
+    (outcome-answered _ (c .before .before .before .before .judge-text .result .answer) _ _ _ _ _ (rw k at (c .before .before .before .before .judge-text .ensures)) (sym (c .before .is-refused .ensures) ∙ c .if1 .left) (j .ensures .area))
 
 pub judge-gathered-spec : {M : Type 1} → statement M
 judge-gathered-spec =
-    tie.close
-    (tie.spec
-    cast-at
-    slice-aggregate-join
-    join-requires
-    block-of-requires
-    judge-text-requires
-    is-refused-requires
-    slice-aggregate-undo
-    undo-requires
-    same-length
-    same-length-2
-    returns
-    same-length-3
-    same-length-4
-    returns-2)
+    tie.close (tie.spec
+    (λ c. search needs) (λ c. search needs) (λ c κs. search needs) (λ c κs. search needs) (λ c κs. search needs)
+    (λ c κs. search needs) (λ c. search needs) undo-requires (λ c. search needs) (λ c. search needs) returns
+    (λ c. search needs) (λ c. search needs) returns-2)
