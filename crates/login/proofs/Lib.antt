@@ -1,0 +1,4 @@
+pub mod Steps
+pub mod Blocks
+pub mod Area
+pub mod Answers
