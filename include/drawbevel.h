@@ -4,6 +4,7 @@
 #ifndef DRAWBEVEL_H
 #define DRAWBEVEL_H
 
+#include <stdbool.h>
 #include <stddef.h>
 #include <stdint.h>
 
@@ -364,6 +365,70 @@ static inline void drawbevel_window(const struct drawbevel_session *s, uint32_t 
     drawbevel_core_window(s->numbers, s->maps, a);
     *exp_cmd_sn = a[1];
     *max_cmd_sn = a[2];
+}
+
+/* ---- a login ---- */
+
+/* The whole of a login between requests. Its members are the core's; only these functions change them. */
+struct drawbevel_login {
+    uint64_t numbers[8];
+    uint32_t values[12]; /* by enum drawbevel_key: the settled parameters in force, Yes 1 and No 0 */
+    bool seen[28];
+};
+
+enum drawbevel_key {
+    DRAWBEVEL_MAX_CONNECTIONS,
+    DRAWBEVEL_MAX_OUTSTANDING_R2T,
+    DRAWBEVEL_INITIAL_R2T,
+    DRAWBEVEL_DATA_PDU_IN_ORDER,
+    DRAWBEVEL_DATA_SEQUENCE_IN_ORDER,
+    DRAWBEVEL_IMMEDIATE_DATA,
+    DRAWBEVEL_MAX_RECV_DATA_SEGMENT_LENGTH,
+    DRAWBEVEL_MAX_BURST_LENGTH,
+    DRAWBEVEL_FIRST_BURST_LENGTH,
+    DRAWBEVEL_DEFAULT_TIME2WAIT,
+    DRAWBEVEL_DEFAULT_TIME2RETAIN,
+    DRAWBEVEL_ERROR_RECOVERY_LEVEL
+};
+
+void drawbevel_core_login_fresh(uint64_t *numbers8, uint32_t *values12, bool *seen28);
+void drawbevel_core_login(uint64_t *numbers8, uint32_t *values12, bool *seen28, const uint8_t *pdu, size_t length, uint16_t live, uint16_t new_handle,
+                          const uint8_t *target_name, size_t name_length, uint8_t *gather, size_t gather_lent, uint8_t *text, size_t text_lent,
+                          uint64_t *answer8);
+
+/* A login before its first request: every standard value is in force.
+ * The target's name, the gather area and the handles are given with each request.
+ * Never refused. */
+static inline void drawbevel_login_fresh(struct drawbevel_login *l)
+{
+    drawbevel_core_login_fresh(l->numbers, l->values, l->seen);
+}
+
+struct drawbevel_login_answer {
+    uint16_t status; /* Status-Class and Status-Detail of a refused login, else 0 */
+    uint8_t stage;   /* after the request: 0 security, 1 operational, 3 full feature */
+    uint8_t transit, csg, nsg;
+    uint16_t tsih;
+    size_t length; /* of the answer's text, in the first bytes of the text output */
+};
+
+/* One login request. live is the live session's handle or 0, new_handle what a leading login is given; the gather area is the same one for the whole login.
+ * DRAWBEVEL_OK and the answer, its text in the first bytes of text; later bytes stay;
+ * or BUFFER, CLOSED, a refusal of drawbevel_read, FIELD (no Login, or new_handle 0), LOGIN with its status, which ends the login. */
+static inline uint32_t drawbevel_login_request(struct drawbevel_login *l, const uint8_t *pdu, size_t length, uint16_t live, uint16_t new_handle,
+                                               const uint8_t *target_name, size_t name_length, uint8_t *gather, size_t gather_lent, uint8_t *text,
+                                               size_t text_lent, struct drawbevel_login_answer *answer)
+{
+    uint64_t a[8];
+    drawbevel_core_login(l->numbers, l->values, l->seen, pdu, length, live, new_handle, target_name, name_length, gather, gather_lent, text, text_lent, a);
+    answer->status = (uint16_t)a[1];
+    answer->stage = (uint8_t)a[2];
+    answer->transit = (uint8_t)a[3];
+    answer->csg = (uint8_t)a[4];
+    answer->nsg = (uint8_t)a[5];
+    answer->tsih = (uint16_t)a[6];
+    answer->length = (size_t)a[7];
+    return (uint32_t)a[0];
 }
 
 #ifdef __cplusplus

@@ -2,3 +2,4 @@ pub mod Words
 pub mod Pdu
 pub mod State
 pub mod Answer
+pub mod Login

@@ -1,18 +1,13 @@
 -- A session between calls: 15 numbers of 32 bits and 6 maps of 64 bits.
 use Prim.Native.Nat.{ℕ, _%_, _^_}
-use mathlib.Core.Bool.{Bool, true, false}
 use mathlib.Core.List.{List, [], _∷_}
-use Rattle.header.specs.Field.{pick}
-use Rattle.capi.specs.Words.{word, isSet}
+use Rattle.capi.specs.Words.{word, isSet, flagWord}
 use Rattle.ledger.specs.declared.Ledger.{Ledger}
 use Rattle.window.specs.declared.Window.{Window}
 use Rattle.session.specs.declared.Session.{Session}
 
 abbrev pub ledgerAt : ℕ → ℕ → ℕ → Ledger
 ledgerAt o n h = record { «is_open» = isSet o; next = n; held = h }
-
-abbrev pub openWord : Bool → ℕ
-openWord b = pick b 1 0
 
 -- the numbers: level, R, the count of hand-outs, and for each connection whether it is open, its next StatSN and its count;
 -- the maps: held, void, and one for each origin

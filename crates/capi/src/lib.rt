@@ -2,6 +2,7 @@
 // declares them and has the structs that these arrays are.
 mod answers;
 pub mod calls;
+pub mod logins;
 pub mod pdu;
 mod state;
 mod words;

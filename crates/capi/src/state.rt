@@ -3,7 +3,8 @@ use ledger::Ledger;
 use session::Session;
 use window::Window;
 ghost use mathlib.Core.Path.{_≡_};
-ghost use Rattle.capi.specs.State.{ledgerAt, sessionOf, openWord};
+ghost use Rattle.capi.specs.State.{ledgerAt, sessionOf};
+ghost use Rattle.capi.specs.Words.{flagWord};
 
 // The ledger whose three numbers start at `at`.
 fn ledger_at(is_open: u32, next: u32, held: u32) -> Ledger
@@ -17,7 +18,7 @@ fn ledger_at(is_open: u32, next: u32, held: u32) -> Ledger
 }
 
 fn open_word(l: Ledger) -> u32
-    ensures { λ r. ⌜ r ≡ openWord (l .«is_open») ⌝ }
+    ensures { λ r. ⌜ r ≡ flagWord (l .«is_open») ⌝ }
 {
     if l.is_open { 1 } else { 0 }
 }
