@@ -15,7 +15,7 @@ use Rattle.header.specs.Field.{pick}
 use Rattle.header.specs.Request.{limits, readPdu}
 use Rattle.header.specs.Request as Read
 use Rattle.header.specs.declared.response.Response.{Response}
-use Rattle.session.proofs.Headers.{got-long}
+use Rattle.header.proofs.Reading.{got-long}
 use Rattle.window.specs.Book as W
 use Rattle.window.specs.Agree as WA
 use Rattle.window.specs.declared.Window.{Window}
