@@ -8,7 +8,7 @@ use lib.ListN.{length, getD, drop}
 use Rattle.header.specs.Refusal.{number}
 use Rattle.header.specs.declared.response.Response.{Response}
 use Rattle.store.specs.Slot.{headerSize, slotOf}
-use Rattle.ledger.specs.Book.{statuses, Status, LedgerBook, freshLedger, oldest, place, Sending, refused, notStored, stored, sending, headerFor, sendBytes, sent, isGood, released, notHeld, run, Found, missing, found, lookup, statusOf, renewed}
+use Rattle.ledger.specs.Book.{statuses, connections, Status, LedgerBook, freshLedger, oldest, place, Sending, refused, notStored, stored, sending, headerFor, sendBytes, sent, isGood, released, notHeld, run, Found, missing, found, lookup, statusOf, renewed}
 use Rattle.ledger.specs.Book as Book
 use Rattle.ledger.specs.declared.Ledger.{Ledger}
 use Rattle.ledger.specs.declared.Sent.{Sent}
@@ -22,7 +22,7 @@ use Rattle.ledger.specs.declared.Resent.the-variants as A
 
 -- The slots of the four connections.
 abbrev pub slots : ℕ
-slots = 4 * statuses
+slots = connections * statuses
 
 -- The slot j has the header and the ticket of what is found.
 unfoldable pub SlotHas : List ℕ → List ℕ → ℕ → Found → Type 0
@@ -31,7 +31,7 @@ SlotHas hs ts j (found s) = (slotOf hs j ≡ s .header) × (getD ts j 0 ≡ s .t
 
 -- The ledger l of connection c, which is open, stands for b.
 pub record Agrees (c : ℕ) (l : Ledger) (hs ts : List ℕ) (b : LedgerBook) : Type 0 where
-  pub near : c < 4
+  pub near : c < connections
   pub is-open : l .«is_open» ≡ true
   pub next : l .next ≡ b .next
   pub fits : b .next < 2 ^ 32
@@ -42,7 +42,7 @@ pub record Agrees (c : ℕ) (l : Ledger) (hs ts : List ℕ) (b : LedgerBook) : T
   pub kept : (k : ℕ) → SlotHas hs ts (c * statuses + (oldest b + k) % statuses) (lookup (b .held) k)
 
 pub record Opened (r : Ledger) (first : ℕ) : Type 0 where
-  pub agrees : (c : ℕ) (hs ts : List ℕ) → c < 4 → length hs ≡ slots * headerSize → length ts ≡ slots → Agrees c r hs ts (freshLedger first)
+  pub agrees : (c : ℕ) (hs ts : List ℕ) → c < connections → length hs ≡ slots * headerSize → length ts ≡ slots → Agrees c r hs ts (freshLedger first)
 
 -- A status stored in c's ledger: c's agreement goes on, the others' stays.
 pub record Stored (c : ℕ) (l : Ledger) (ticket : ℕ) (header hs ts : List ℕ) (r : Ledger) (hs' ts' : List ℕ) : Type 0 where

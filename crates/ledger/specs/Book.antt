@@ -8,12 +8,17 @@ use lib.Seq.{sets}
 use Rattle.header.specs.Field.{pick, bytesOf}
 use Rattle.header.specs.Field as Field
 use Rattle.header.specs.Response.{maxData, refusalIn, headerBytes}
+use Rattle.store.specs.Slot.{headerSize}
 use Rattle.header.specs.declared.response.Response.{Response}
 use Rattle.header.specs.declared.response.Response.the-variants as R
 
 -- "FULL: 32 statuses unacknowledged".
 abbrev pub statuses : ℕ
 statuses = 32
+
+-- "connection number 4 or more" there is none of.
+abbrev pub connections : ℕ
+connections = 4
 
 -- What is kept of a status that was sent.
 pub record Status : Type 0 where
@@ -72,8 +77,8 @@ headerFor b r e m = headerBytes r (record { «stat_sn» = b .next; «exp_cmd_sn�
 -- The lent output after a send: the header in its first 48 bytes, or as it was.
 unfoldable pub sendBytes : Sending → (header out : List ℕ) → List ℕ
 sendBytes (refused n) h o = o
-sendBytes (notStored n) h o = h ++ drop 48 o
-sendBytes (stored n) h o = h ++ drop 48 o
+sendBytes (notStored n) h o = h ++ drop headerSize o
+sendBytes (stored n) h o = h ++ drop headerSize o
 
 -- The ledger with one status more.
 unfoldable pub sent : LedgerBook → Status → LedgerBook

@@ -7,6 +7,7 @@ use header::response::Judgement;
 use header::response::MAX_DATA;
 use header::response::Numbers;
 use header::response::Response;
+use store::HEADER_BYTES;
 ghost use mathlib.Core.Path.{_≡_};
 ghost use mathlib.Core.Bool.{true, false};
 ghost use mathlib.Core.List.{List};
@@ -15,15 +16,21 @@ ghost use lib.ListN.{length};
 ghost use lib.Seq.{sets};
 ghost use Rattle.header.specs.Field.{bytesOf};
 ghost use Rattle.store.specs.Slot.{headerSize};
-ghost use Rattle.ledger.specs.Book.{LedgerBook, statuses, isStatus, place, runOf};
+ghost use Rattle.ledger.specs.Book.{LedgerBook, statuses, connections, isStatus, place, runOf};
 ghost use Rattle.ledger.specs.Agree.{Agrees, Opened, Stored, Sends, AcknowledgesAt, runAnswer, Resends};
 
-// The statuses that a ledger can hold.
+// The statuses that a ledger can hold, and its slots.
 pub const STATUSES: u32 = 32;
+
+const SLOTS_EACH: usize = 32;
 // The statuses of four connections, and the bytes that their headers take.
 pub const LEDGER_SLOTS: usize = 128;
 
 pub const LEDGER_BYTES: usize = 6144;
+// Where a header has ExpCmdSN and MaxCmdSN.
+const EXP_CMD_SN: usize = 28;
+
+const MAX_CMD_SN: usize = 32;
 
 pub struct Ledger {
     pub is_open: bool,
@@ -90,7 +97,7 @@ pub fn send(
     headers: &mut [u8; LEDGER_BYTES],
     tickets: &mut [u32; LEDGER_SLOTS],
 ) -> Sent
-    requires { ⌜ (c < 4) × (headerSize ≤ length (now out)) ⌝ }
+    requires { ⌜ (c < connections) × (headerSize ≤ length (now out)) ⌝ }
     ensures { λ x. ⌜ Sends c l ticket r «exp_cmd_sn» «max_cmd_sn» (now (out .entry)) (now (headers .entry)) (now (tickets .entry)) x (now (out .exit)) (now (headers .exit)) (now (tickets .exit)) ⌝ }
 {
     match header::write::judge(r, MAX_DATA) {
@@ -138,16 +145,16 @@ fn keep(
     l: Ledger,
     c: usize,
     ticket: u32,
-    header: [u8; 48],
+    header: [u8; HEADER_BYTES],
     headers: &mut [u8; LEDGER_BYTES],
     tickets: &mut [u32; LEDGER_SLOTS],
 ) -> Ledger
-    requires { ⌜ (c < 4) × (l .held < statuses) ⌝ }
+    requires { ⌜ (c < connections) × (l .held < statuses) ⌝ }
     ensures { λ r. ⌜ Stored c l ticket header (now (headers .entry)) (now (tickets .entry)) r (now (headers .exit)) (now (tickets .exit)) ⌝ }
 {
     let next = l.next;
-    let slot = c * 32 + (next % STATUSES) as usize;
-    store::put(headers, slot * store::HEADER_BYTES, &header);
+    let slot = c * SLOTS_EACH + (next % STATUSES) as usize;
+    store::put(headers, slot * HEADER_BYTES, &header);
     tickets[slot] = ticket;
     let after = std::num::wrapping_add_u32(next, 1);
     Ledger {
@@ -229,17 +236,17 @@ pub fn resend(
     tickets: &[u32; LEDGER_SLOTS],
     out: &mut [u8],
 ) -> Resent
-    requires { ⌜ (c < 4) × (headerSize ≤ length (now out)) ⌝ }
+    requires { ⌜ (c < connections) × (headerSize ≤ length (now out)) ⌝ }
     ensures { λ r. ⌜ Resends c l «stat_sn» «exp_cmd_sn» «max_cmd_sn» (now (headers .entry)) (now (tickets .entry)) (now (out .entry)) r (now (out .exit)) ⌝ }
 {
     let place = place_of(l, stat_sn);
     if l.held <= place {
         return Resent::NotHeld;
     }
-    let slot = c * 32 + (stat_sn % STATUSES) as usize;
-    store::get(headers, slot * store::HEADER_BYTES, out);
-    put_number(out, 28, exp_cmd_sn);
-    put_number(out, 32, max_cmd_sn);
+    let slot = c * SLOTS_EACH + (stat_sn % STATUSES) as usize;
+    store::get(headers, slot * HEADER_BYTES, out);
+    put_number(out, EXP_CMD_SN, exp_cmd_sn);
+    put_number(out, MAX_CMD_SN, max_cmd_sn);
     Resent::Status(tickets[slot])
 }
 

@@ -8,11 +8,12 @@ use native.Mathlib.Omega.{arith}
 use native.Mathlib.Decide.{ℕ-discrete, decLt}
 use borrow.Author.Tests.{lt-ltb, le-ltb, eq-eqb, ne-eqb, eqb-true}
 use lib.Dec.{ltb, eqb}
-use lib.ListN.{length, getD, set, drop, replicate, length-append, length-drop, length-set}
+use lib.ListN.{length, getD, set, drop, length-append, length-drop, length-set}
 use lib.Seq.{getD-set-same, getD-set-other}
 use Rattle.header.specs.Field.{pick}
 use Rattle.ledger.specs.Book as L
 use Rattle.ledger.proofs.Laws.{lookup-past, lookup-end, lookup-front, lookup-drop, oldest-sent, oldest-released, oldest-lt}
+use Rattle.session.proofs.Steps.{all-closed}
 use Rattle.session.proofs.PastWindow.{same-true, same-false}
 use Rattle.session.specs.Book.{Connection, closed, live, connsLeft}
 use Rattle.session.specs.Notions.{Effect, keeps, handsOut, logsOut, opens, sends, acknowledges, nothing, same, isOpen, precedes, lastSent, acknowledgedSince}
@@ -273,11 +274,6 @@ conn-ack ds k c x q i l e g = change (acknowledges c x) ds k c (live (L.released
     other-status j m y = unfold statusIn in (unfold acknowledgedSince in (unfold lastSent in (rw (ne-eqb j c y))))
 
 -- ---- a logout
-
-all-closed : (n j : ℕ) → getD (replicate n closed) j closed ≡ closed
-all-closed zero j = refl
-all-closed (suc n) zero = refl
-all-closed (suc n) (suc j) = all-closed n j
 
 pub conn-logs : (ds : List Effect) (k : List Connection) (c r e : ℕ) → ConnInv ds k → c < 4 → ConnInv (logsOut c r e ∷ ds) (connsLeft k c r)
 unfolding connsLeft isOpen

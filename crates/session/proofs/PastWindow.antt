@@ -17,6 +17,7 @@ use Rattle.window.specs.Book.{Origin, connection, isFrom, Place, empty, holds, 
 use Rattle.window.specs.Agree.{heldBit}
 use Rattle.window.proofs.Bits.{shifted, all-empty}
 use Rattle.window.proofs.Left.{left-before, left-after, length-left}
+use Rattle.session.proofs.Steps.{apart}
 use Rattle.session.specs.Notions.{Effect, keeps, handsOut, logsOut, opens, sends, acknowledges, nothing, same, handOuts, next, distance, amongLast, Latest, by, latestOffer, originOf, concerned, heldRun, held, gapless, expCmdSN, maxCmdSN, beforeExp, voidedSince, keptOffers, emptied, countHeld, heldNow}
 
 -- ---- what the history has under a number
@@ -309,8 +310,8 @@ gone hd t o false true false false = refl
 gone hd t o false false false true = refl
 gone hd t o false false false false = refl
 
-not-both : (r : ℕ) → (eqb r 0 && eqb r 2) ≡ false
-not-both r = go (ℕ-discrete r 0)
+reasons-apart : (r : ℕ) → (eqb r 0 && eqb r 2) ≡ false
+reasons-apart r = go (ℕ-discrete r 0)
   where
     go : Dec (r ≡ 0) → (eqb r 0 && eqb r 2) ≡ false
     go (yes e) = rw e
@@ -326,7 +327,7 @@ left-in : (c r : ℕ) (h : Bool) (l : Latest) (o : Origin) (v : Bool)
     ≡ W.before c r (placeOf h l o v)
 unfolding placeOf W.before W.spared W.concerns concerned
 left-in c r false l o v = refl
-left-in c r true l o v = rw (and-not (eqb r 0 || isFrom c o)) (lost (headerIn l) (ticketIn l) o (eqb r 0) (eqb r 2) (isFrom c o) v (not-both r))
+left-in c r true l o v = rw (and-not (eqb r 0 || isFrom c o)) (lost (headerIn l) (ticketIn l) o (eqb r 0) (eqb r 2) (isFrom c o) v (reasons-apart r))
 
 left-out : (c r : ℕ) (h : Bool) (l : Latest) (o : Origin) (v : Bool)
     → placeOf (h && not (concerned c r o && not false)) l (pick (eqb r 2 && isFrom c o) W.none o) (v || (not (eqb r 2) && (concerned c r o && false)))
@@ -452,9 +453,6 @@ last-is f k (acknowledges c x ∷ ds) n h l = last-is f k ds n h l ∙ unfold di
 last-is f k (nothing ∷ ds) n h l = last-is f k ds n h l ∙ unfold distance in (unfold next in refl)
 
 -- ---- a number that is held was offered
-
-apart : {t : Bool} → t ≡ true → t ≡ false → ⊥
-apart p q = let z : _≡_ {A = ℕ} 0 1 = cc in omega arith
 
 and-left : (a b : Bool) → (a && b) ≡ true → a ≡ true
 and-left true b e = refl

@@ -26,7 +26,8 @@ use Rattle.session.specs.Book.{Offered, denied, atOnce, numbered, offere
 use Rattle.session.specs.History.{event, booked, bookRun}
 use Rattle.session.specs.Notions.{Effect, keeps, handsOut, logsOut, opens, sends, acknowledges, nothing, effectOf, cmdSN, cmdSNOf, same, handOuts, next, distance, amongNext, amongLast, Latest, by, latestOffer, originOf, held, expCmdSN, maxCmdSN, voidedSince, emptied, isOpen, lastSent, acknowledgedSince}
 use Rattle.session.specs.Demand.{Takes, Offers, Shows, Resends, NotRefused, Sentences, Each, Demand3}
-use Rattle.session.proofs.Headers.{length-header}
+use Rattle.header.proofs.Writing.{length-header}
+use Rattle.session.proofs.Steps.{apart}
 use Rattle.session.proofs.PastWindow.{AllNumbered, WindowInv, next-is, distance-is, held-is, isHeld, q-opens, q-sends, q-acknowledges, q-nothing, window-quiet, window-keeps, window-hands, window-logs, window-fresh, count-is, exp-is, max-is, last-is, was-offered, placeIn, placeOf, headerIn, ticketIn, place-first}
 use Rattle.session.proofs.PastConns.{LiveOk, ConnIs, ConnInv, statusIn, conn-still, s-keeps, s-handsOut, s-nothing, conn-open, conn-send, conn-ack, conn-logs, conn-fresh}
 
@@ -351,9 +352,6 @@ past x o j k l =
     ap (λ (n : ℕ). getD (x ++ drop 48 o) n 0) (sym e) ∙ getD-append-add x (drop 48 o) (j - 48) 0 ∙ getD-drop 48 o (j - 48) 0 ∙ ap (λ (n : ℕ). getD o n 0) e'
 
 -- ---- the sentences
-
-apart : {t : Bool} → t ≡ true → t ≡ false → ⊥
-apart p q = let z : _≡_ {A = ℕ} 0 1 = cc in omega arith
 
 -- the four answers to a numbered offer, by the three notions that tell them apart
 module _ (f : ℕ) (ds : List Effect) (n : ℕ) where

@@ -15,7 +15,7 @@ use Rattle.header.specs.Field.{pick}
 use Rattle.header.specs.Request.{limits, readPdu}
 use Rattle.header.specs.Request as Read
 use Rattle.header.specs.declared.response.Response.{Response}
-use Rattle.session.proofs.Headers.{got-long}
+use Rattle.header.proofs.Reading.{got-long}
 use Rattle.window.specs.Book as W
 use Rattle.window.specs.Agree as WA
 use Rattle.window.specs.declared.Window.{Window}
@@ -55,13 +55,13 @@ pub reach-none : (b : Book) (c : ℕ) (o : List ℕ) (k : L.LedgerBook → Step)
 unfolding onConnection
 reach-none b c o k l = rw (le-ltb c 4 l)
 
-not-both : (t : Bool) → t ≡ true → t ≡ false → ⊥
-not-both t p q = let z : _≡_ {A = ℕ} 0 1 = cc in omega arith
+pub apart : {t : Bool} → t ≡ true → t ≡ false → ⊥
+apart p q = let z : _≡_ {A = ℕ} 0 1 = cc in omega arith
 
 conn-closed : (c : ℕ) (l : Ledger) (hs ts : List ℕ) (k : Connection) → ConnAgrees c l hs ts k → l .«is_open» ≡ false → k ≡ closed
 unfolding ConnAgrees
 conn-closed c l hs ts closed h e = refl
-conn-closed c l hs ts (live b) h e = absurd (not-both (l .«is_open») (h .is-open) e)
+conn-closed c l hs ts (live b) h e = absurd (apart (h .is-open) e)
 
 pub is-closed : (s : Session) (h t hs ts : List ℕ) (b : Book) → Agrees (state s h t hs ts) b → (c : ℕ) → c < 4 → ledgerOf s c .«is_open» ≡ false → connOf b c ≡ closed
 unfolding connOf
@@ -84,7 +84,7 @@ unfolding connOf ConnAgrees
 open-at s h t hs ts b c l g i = go (getD (b .conns) c closed) refl (subst (λ (x : Ledger). ConnAgrees c x hs ts (getD (b .conns) c closed)) (sym (i .ledger)) (g .conns c (i .near)))
   where
     go : (k : Connection) → getD (b .conns) c closed ≡ k → ConnAgrees c l hs ts (getD (b .conns) c closed) → OpenAt hs ts b c l
-    go closed q n = absurd (not-both (l .«is_open») (i .is-open) (subst (ConnAgrees c l hs ts) q n))
+    go closed q n = absurd (apart (i .is-open) (subst (ConnAgrees c l hs ts) q n))
     go (live x) q n = record { book = x; is = q; agrees = subst (ConnAgrees c l hs ts) q n; near = i .near }
 
 pub reach-open : (b : Book) (c : ℕ) (o : List ℕ) (k : L.LedgerBook → Step) (q : L.LedgerBook) → c < 4 → connOf b c ≡ live q → onConnection b c o k ≡ k q
@@ -196,7 +196,7 @@ conn-set s h t hs ts hs' ts' b c m k g l n f r d = record {
         rw (getD-set-other (s .conns) c j m noLedger q, getD-set-other (b .conns) c j k closed q)
         (has-kept hs ts hs' ts' j (getD (s .conns) j noLedger) (getD (b .conns) j closed) (λ y. f j (getD (s .conns) j noLedger) y q) (g .conns j lj))
 
-all-closed : (n j : ℕ) → getD (replicate n closed) j closed ≡ closed
+pub all-closed : (n j : ℕ) → getD (replicate n closed) j closed ≡ closed
 all-closed zero j = refl
 all-closed (suc n) zero = refl
 all-closed (suc n) (suc j) = all-closed n j

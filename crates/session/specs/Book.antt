@@ -18,7 +18,7 @@ use Rattle.ledger.specs.Book as L
 
 -- "connection number 4 or more" is NOCONN.
 abbrev pub connections : ℕ
-connections = 4
+connections = W.connections
 
 -- A connection: not open, or open with its ledger.
 pub data Connection : Type 0 where

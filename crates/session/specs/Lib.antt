@@ -5,3 +5,4 @@ pub mod Agree
 pub mod History
 pub mod Notions
 pub mod Demand
+pub mod Starred

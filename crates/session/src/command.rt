@@ -10,6 +10,7 @@ use header::request::Request;
 use store::HEADER_BYTES;
 use window::Taken;
 use window::WINDOW_BYTES;
+use window::WINDOW_SLOTS;
 ghost use mathlib.Core.Path.{_≡_};
 ghost use mathlib.Core.List.{List, []};
 ghost use Prim.Native.Nat.{ℕ};
@@ -92,7 +93,7 @@ pub fn offer(
     ticket: u32,
     pdu: &[u8],
     headers: &mut [u8; WINDOW_BYTES],
-    tickets: &mut [u32; 64],
+    tickets: &mut [u32; WINDOW_SLOTS],
 ) -> OfferStep
     ensures { λ r. ⌜ ((hs ts : List ℕ) → Did (Call.offer conn ticket (now (pdu .entry))) (state s (now (headers .entry)) (now (tickets .entry)) hs ts) (offerAnswer (r .answer)) [] (state (r .session) (now (headers .exit)) (now (tickets .exit)) hs ts)) ⌝ }
 {
@@ -137,7 +138,7 @@ pub fn offer(
 pub fn take(
     s: Session,
     headers: &[u8; WINDOW_BYTES],
-    tickets: &[u32; 64],
+    tickets: &[u32; WINDOW_SLOTS],
     out: &mut [u8],
 ) -> TakeStep
     ensures { λ r. ⌜ ((hs ts : List ℕ) → Did (Call.take (now (out .entry))) (state s (now (headers .entry)) (now (tickets .entry)) hs ts) (takeAnswer (r .answer)) (now (out .exit)) (state (r .session) (now (headers .entry)) (now (tickets .entry)) hs ts)) ⌝ }

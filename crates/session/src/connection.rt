@@ -3,6 +3,7 @@ use crate::Session;
 use header::refusal::Refusal;
 use ledger::Ledger;
 use window::CONNECTIONS;
+use window::CONNS;
 ghost use mathlib.Core.Path.{_≡_};
 ghost use mathlib.Core.List.{List, []};
 ghost use Prim.Native.Nat.{ℕ, _<_};
@@ -92,7 +93,7 @@ pub fn open_connection(s: Session, conn: u32, stat_sn: u32) -> OpenStep
 }
 
 // The connections after a logout: none is open after reason 0, else conn is closed.
-fn conns_left(conns: [Ledger; 4], conn: u32, reason: u8) -> [Ledger; 4]
+fn conns_left(conns: [Ledger; CONNS], conn: u32, reason: u8) -> [Ledger; CONNS]
     requires { ⌜ conn < connections ⌝ }
     ensures { λ r. ⌜ LeavesConns conns conn reason r ⌝ }
 {

@@ -9,7 +9,9 @@ pub mod status;
 use ledger::LEDGER_BYTES;
 use ledger::LEDGER_SLOTS;
 use ledger::Ledger;
+use window::CONNS;
 use window::WINDOW_BYTES;
+use window::WINDOW_SLOTS;
 use window::Window;
 ghost use mathlib.Core.List.{List, []};
 ghost use Prim.Native.Nat.{ℕ};
@@ -20,14 +22,14 @@ pub struct Session {
     // ErrorRecoveryLevel.
     pub level: u8,
     pub window: Window,
-    pub conns: [Ledger; 4],
+    pub conns: [Ledger; CONNS],
 }
 
 // A fresh session with its arrays.
 pub struct FreshSession {
     pub session: Session,
     pub headers: [u8; WINDOW_BYTES],
-    pub tickets: [u32; 64],
+    pub tickets: [u32; WINDOW_SLOTS],
     pub statuses: [u8; LEDGER_BYTES],
     pub status_tickets: [u32; LEDGER_SLOTS],
 }
@@ -57,8 +59,8 @@ pub fn fresh(first: u32, stat_sn: u32, level: u8) -> FreshSession
         session: session,
         headers: headers,
         tickets: tickets,
-        statuses: [0u8; 6144],
-        status_tickets: [0u32; 128],
+        statuses: [0u8; LEDGER_BYTES],
+        status_tickets: [0u32; LEDGER_SLOTS],
     }
 }
 

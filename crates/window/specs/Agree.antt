@@ -6,7 +6,7 @@ use mathlib.Core.List.{List, []}
 use lib.ListN.{length, getD, replicate}
 use Rattle.store.specs.Slot.{headerSize, slotOf}
 use Rattle.window.specs.Bit.{bitAt}
-use Rattle.window.specs.Book.{places, remembered, Origin, none, connection, Place, empty, holds, Book, next, gapless, freshBook, Call, offer, take, logout, Answer, kept, duplicate, passed, beyond, nothing, command, void, loggedOut, bookStep, isFrom, one-if}
+use Rattle.window.specs.Book.{places, connections, remembered, Origin, none, connection, Place, empty, holds, Book, next, gapless, freshBook, Call, offer, take, logout, Answer, kept, duplicate, passed, beyond, nothing, command, void, loggedOut, bookStep, isFrom, one-if}
 use Rattle.window.specs.declared.Window.{Window}
 use Rattle.window.specs.declared.FreshWindow.{FreshWindow}
 use Rattle.window.specs.declared.Offered.{Offered}
@@ -71,7 +71,7 @@ pub record Agrees (s : State) (b : Book) : Type 0 where
   pub size : length (b .held) ≡ places
   pub headers-size : length (s .headers) ≡ places * headerSize
   pub tickets-size : length (s .tickets) ≡ places
-  pub origins-size : length (s .window .origins) ≡ 4
+  pub origins-size : length (s .window .origins) ≡ connections
   pub held : Maps (s .window .held) heldBit (b .held)
   pub voided : Maps (s .window .voided) voidBit (b .held)
   pub origins : (c : ℕ) → Maps (getD (s .window .origins) c 0) (originBit c) (b .held)

@@ -12,6 +12,10 @@ use Rattle.store.specs.Slot.{headerSize}
 abbrev pub places : ℕ
 places = 64
 
+-- "connection number 4 or more" there is none of.
+abbrev pub connections : ℕ
+connections = 4
+
 -- "among the last 2^31 handed out".
 abbrev pub remembered : ℕ
 remembered = 2 ^ 31

@@ -10,16 +10,20 @@ ghost use lib.ListN.{length, take, getD, set};
 ghost use lib.Dec.{eqb, ltb};
 ghost use Rattle.store.specs.Slot.{headerSize};
 ghost use Rattle.window.specs.Bit.{without, eachWithout};
-ghost use Rattle.window.specs.Book.{Book, remembered, expCmdSN, maxCmdSN, Call, Answer, handedOn, firstPlace, closeSession, recovery};
+ghost use Rattle.window.specs.Book.{Book, connections, remembered, expCmdSN, maxCmdSN, Call, Answer, handedOn, firstPlace, closeSession, recovery};
 ghost use Rattle.header.specs.Field.{pick};
 ghost use Rattle.window.specs.Agree.{Agrees, Did, IsFresh, OriginAt, state, offerAnswer, takeAnswer, originOf};
 
-// The places of a window.
+// The places of a window; how many slots they have, and the bytes that these take.
 pub const PLACES: u32 = 64;
-// The bytes that PLACES headers take.
+
+pub const WINDOW_SLOTS: usize = 64;
+
 pub const WINDOW_BYTES: usize = 3072;
-// The connections of a session.
+// The connections of a session, as a bound on their numbers and as a length.
 pub const CONNECTIONS: u32 = 4;
+
+pub const CONNS: usize = 4;
 // How many hand-outs are remembered: 2^31.
 const REMEMBERED: u32 = 2147483648;
 // Logout reasons (RFC 7143, 11.14.1): the session is closed; the connection is removed for recovery. Any other reason
@@ -37,14 +41,14 @@ pub struct Window {
     pub held: u64,
     pub voided: u64,
     // The held places whose origin is connection 0, 1, 2, 3.
-    pub origins: [u64; 4],
+    pub origins: [u64; CONNS],
 }
 
 // A fresh window with its arrays.
 pub struct FreshWindow {
     pub window: Window,
     pub headers: [u8; WINDOW_BYTES],
-    pub tickets: [u32; 64],
+    pub tickets: [u32; WINDOW_SLOTS],
 }
 
 pub enum Offered {
@@ -95,12 +99,12 @@ pub fn fresh(first: u32) -> FreshWindow
         handed: 0,
         held: 0,
         voided: 0,
-        origins: [0u64; 4],
+        origins: [0u64; CONNS],
     };
     FreshWindow {
         window: window,
         headers: [0u8; 3072],
-        tickets: [0u32; 64],
+        tickets: [0u32; WINDOW_SLOTS],
     }
 }
 
@@ -128,9 +132,9 @@ pub fn offer(
     conn: u32,
     pdu: &[u8],
     headers: &mut [u8; WINDOW_BYTES],
-    tickets: &mut [u32; 64],
+    tickets: &mut [u32; WINDOW_SLOTS],
 ) -> OfferStep
-    requires { ⌜ (conn < 4) × (headerSize ≤ length (now pdu)) ⌝ }
+    requires { ⌜ (conn < connections) × (headerSize ≤ length (now pdu)) ⌝ }
     ensures { λ r. ⌜ Did (Call.offer number ticket conn (take headerSize (now (pdu .entry)))) (state w (now (headers .entry)) (now (tickets .entry))) (offerAnswer (r .answer)) [] (state (r .window) (now (headers .exit)) (now (tickets .exit))) ⌝ }
 {
     let d = std::num::wrapping_sub_u32(number, w.next);
@@ -175,7 +179,7 @@ pub fn offer(
 pub fn take(
     w: Window,
     headers: &[u8; WINDOW_BYTES],
-    tickets: &[u32; 64],
+    tickets: &[u32; WINDOW_SLOTS],
     out: &mut [u8],
 ) -> TakeStep
     requires { ⌜ headerSize ≤ length (now out) ⌝ }
@@ -305,8 +309,8 @@ fn newly_voided(before: u64, voided: u64, reason: u8) -> u64
 }
 
 // The origins after a logout: with reason 2 nothing is the connection's own any more.
-fn origins_left(origins: [u64; 4], conn: u32, reason: u8, emptied: u64) -> [u64; 4]
-    ensures { λ r. ⌜ r ≡ pick (eqb reason recovery) (pick (ltb conn 4) (set origins conn 0) origins) (eachWithout origins emptied) ⌝ }
+fn origins_left(origins: [u64; CONNS], conn: u32, reason: u8, emptied: u64) -> [u64; CONNS]
+    ensures { λ r. ⌜ r ≡ pick (eqb reason recovery) (pick (ltb conn connections) (set origins conn 0) origins) (eachWithout origins emptied) ⌝ }
 {
     if reason == RECOVERY {
         map::without_origin(origins, conn)

@@ -5,13 +5,15 @@ ghost use Prim.Native.Nat.{_-_, _^_, _<_, _≤_};
 ghost use lib.ListN.{getD, set};
 ghost use lib.Dec.{ltb};
 ghost use Rattle.window.specs.Bit.{bitAt, withBit, without, eachWithout};
-ghost use Rattle.window.specs.Book.{places};
+ghost use Rattle.window.specs.Book.{places, connections};
 ghost use Rattle.header.specs.Field.{pick};
 ghost use Rattle.window.specs.Agree.{Counts};
 use crate::CONNECTIONS;
+use crate::CONNS;
+use crate::PLACES;
 
 // Bit d of a map.
-pub fn bit(map: u64, d: u32) -> u64
+pub(crate) fn bit(map: u64, d: u32) -> u64
     requires { ⌜ d < places ⌝ }
     ensures { λ r. ⌜ r ≡ bitAt map d ⌝ }
 {
@@ -19,7 +21,7 @@ pub fn bit(map: u64, d: u32) -> u64
 }
 
 // The map with bit d set.
-pub fn with_bit(map: u64, d: u32) -> u64
+pub(crate) fn with_bit(map: u64, d: u32) -> u64
     requires { ⌜ d < places ⌝ }
     ensures { λ r. ⌜ r ≡ withBit map d ⌝ }
 {
@@ -27,22 +29,26 @@ pub fn with_bit(map: u64, d: u32) -> u64
 }
 
 // The count of held places without a gap from the first: 64 where all are held.
-pub fn gapless(held: u64) -> u32
+pub(crate) fn gapless(held: u64) -> u32
     ensures { λ r. ⌜ Counts held r ⌝ }
 {
     u64::trailing_zeros(!held)
 }
 
 // The map of the first g places.
-pub fn below(g: u32) -> u64
+pub(crate) fn below(g: u32) -> u64
     requires { ⌜ g ≤ places ⌝ }
     ensures { λ r. ⌜ r ≡ 2 ^ g - 1 ⌝ }
 {
-    if g == 64 { u64::MAX } else { (1u64 << g) - 1 }
+    if g == PLACES {
+        u64::MAX
+    } else {
+        (1u64 << g) - 1
+    }
 }
 
 // The map of a connection; one that there is not has no command.
-pub fn of(origins: [u64; 4], conn: u32) -> u64
+pub(crate) fn of(origins: [u64; CONNS], conn: u32) -> u64
     ensures { λ r. ⌜ r ≡ getD origins conn 0 ⌝ }
 {
     if conn < CONNECTIONS {
@@ -54,8 +60,8 @@ pub fn of(origins: [u64; 4], conn: u32) -> u64
 }
 
 // The maps with bit d of a connection's set.
-pub fn with_origin(origins: [u64; 4], conn: u32, d: u32) -> [u64; 4]
-    requires { ⌜ (d < places) × (conn < 4) ⌝ }
+pub(crate) fn with_origin(origins: [u64; CONNS], conn: u32, d: u32) -> [u64; CONNS]
+    requires { ⌜ (d < places) × (conn < connections) ⌝ }
     ensures { λ r. ⌜ r ≡ set origins conn (withBit (getD origins conn 0) d) ⌝ }
 {
     let c = conn as usize;
@@ -65,8 +71,8 @@ pub fn with_origin(origins: [u64; 4], conn: u32, d: u32) -> [u64; 4]
 }
 
 // The maps with a connection's empty.
-pub fn without_origin(origins: [u64; 4], conn: u32) -> [u64; 4]
-    ensures { λ r. ⌜ r ≡ pick (ltb conn 4) (set origins conn 0) origins ⌝ }
+pub(crate) fn without_origin(origins: [u64; CONNS], conn: u32) -> [u64; CONNS]
+    ensures { λ r. ⌜ r ≡ pick (ltb conn connections) (set origins conn 0) origins ⌝ }
 {
     if conn < CONNECTIONS {
         let c = conn as usize;
@@ -79,7 +85,7 @@ pub fn without_origin(origins: [u64; 4], conn: u32) -> [u64; 4]
 }
 
 // The maps without the places of another.
-pub fn each_without(origins: [u64; 4], gone: u64) -> [u64; 4]
+pub(crate) fn each_without(origins: [u64; CONNS], gone: u64) -> [u64; CONNS]
     ensures { λ r. ⌜ r ≡ eachWithout origins gone ⌝ }
 {
     [

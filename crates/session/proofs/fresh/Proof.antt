@@ -1,4 +1,4 @@
--- `session::fresh` meets its contract.
+-- `session::fresh` meets its contract: the window's and the ledgers' fresh states together.
 use Prim.Native.Nat.{ℕ, zero, suc, _-_, _<_}
 use mathlib.Core.Path.{_≡_, refl}
 use mathlib.Core.Bool.{false}

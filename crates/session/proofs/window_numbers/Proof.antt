@@ -1,4 +1,4 @@
--- `session::window_numbers` meets its contract.
+-- `session::window_numbers` meets its contract: the window's two numbers.
 use Prim.Native.Nat.{ℕ, _-_}
 use mathlib.Core.Path.{refl, sym, ap₂}
 use mathlib.Core.List.{[]}

@@ -1,4 +1,4 @@
--- `session::command::offer` meets its contract.
+-- `session::command::offer` meets its contract: each way through the code is one outcome of the book; what is numbered is the window's step.
 use Prim.Native.Nat.{_-_, _≤_}
 use mathlib.Core.Path.{refl, _∙_}
 use mathlib.Core.List.{[]}

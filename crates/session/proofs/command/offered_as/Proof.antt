@@ -1,4 +1,4 @@
--- `session::command::offered_as` meets its contract.
+-- `session::command::offered_as` meets its contract: the kind, then I.
 use Prim.Native.Nat.{_-_}
 use borrow.Author.Needs.{needs}
 use Rattle.session.proofs.command.offered_as.Statement.{statement}

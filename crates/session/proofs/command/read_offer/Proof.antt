@@ -1,4 +1,4 @@
--- `session::command::read_offer` meets its contract.
+-- `session::command::read_offer` meets its contract: reading's refusals pass through.
 use Prim.Native.Nat.{_-_}
 use borrow.Author.Needs.{needs}
 use Rattle.session.proofs.command.read_offer.Statement.{statement}

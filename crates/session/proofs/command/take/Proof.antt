@@ -1,4 +1,4 @@
--- `session::command::take` meets its contract.
+-- `session::command::take` meets its contract: BUFFER, else the window's step.
 use Prim.Native.Nat.{_-_}
 use mathlib.Core.Path.{refl, _∙_}
 use borrow.Author.Needs.{needs}

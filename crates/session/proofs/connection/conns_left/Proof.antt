@@ -1,4 +1,4 @@
--- `session::connection::conns_left` meets its contract.
+-- `session::connection::conns_left` meets its contract: four closed ledgers, or the one replaced.
 use Prim.Native.Nat.{ℕ, zero, suc, _-_, _<_}
 use mathlib.Core.Path.{_≡_, refl, _∙_}
 use mathlib.Core.Bool.{false}

@@ -1,4 +1,4 @@
--- `session::connection::logout` meets its contract.
+-- `session::connection::logout` meets its contract: the window's step, and the connections that are left.
 use Prim.Native.Nat.{_-_, _≤_}
 use mathlib.Core.Path.{refl, sym, ap, _∙_}
 use mathlib.Core.List.{[]}

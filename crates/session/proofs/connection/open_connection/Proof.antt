@@ -1,4 +1,4 @@
--- `session::connection::open_connection` meets its contract.
+-- `session::connection::open_connection` meets its contract: an empty ledger stands for the fresh one of the book.
 use Prim.Native.Nat.{_-_, _≤_}
 use mathlib.Core.Path.{refl}
 use mathlib.Core.List.{[]}

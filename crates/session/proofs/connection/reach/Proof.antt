@@ -1,4 +1,4 @@
--- `session::connection::reach` meets its contract.
+-- `session::connection::reach` meets its contract: the number, then whether the ledger is open.
 use Prim.Native.Nat.{_-_}
 use mathlib.Core.Path.{refl}
 use borrow.Author.Needs.{needs}

@@ -1,4 +1,4 @@
--- `session::connection::with_ledger` meets its contract.
+-- `session::connection::with_ledger` meets its contract: one ledger is replaced.
 use Prim.Native.Nat.{_-_}
 use mathlib.Core.Path.{refl}
 use borrow.Author.Needs.{needs}

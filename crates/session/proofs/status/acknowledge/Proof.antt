@@ -1,4 +1,4 @@
--- `session::status::acknowledge` meets its contract.
+-- `session::status::acknowledge` meets its contract: the ledger's outcome, good or stale.
 use Prim.Native.Nat.{_-_, _≤_}
 use mathlib.Core.Path.{refl, _∙_}
 use mathlib.Core.List.{[]}

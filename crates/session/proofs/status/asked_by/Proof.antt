@@ -1,4 +1,4 @@
--- `session::status::asked_by` meets its contract.
+-- `session::status::asked_by` meets its contract: by kind, then type and level.
 use Prim.Native.Nat.{_-_}
 use borrow.Author.Needs.{needs}
 use Rattle.session.proofs.status.asked_by.Statement.{statement}

@@ -1,4 +1,4 @@
--- `session::status::read_snack` meets its contract.
+-- `session::status::read_snack` meets its contract: reading's refusals pass through.
 use Prim.Native.Nat.{_-_}
 use borrow.Author.Needs.{needs}
 use Rattle.session.proofs.status.read_snack.Statement.{statement}

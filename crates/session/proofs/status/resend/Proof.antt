@@ -1,4 +1,4 @@
--- `session::status::resend` meets its contract.
+-- `session::status::resend` meets its contract: the ledger's outcome, at a level above 0.
 use Prim.Native.Nat.{_-_, _≤_}
 use mathlib.Core.Path.{refl, sym, _∙_}
 use borrow.Author.Needs.{needs}

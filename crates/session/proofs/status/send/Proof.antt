@@ -1,4 +1,4 @@
--- `session::status::send` meets its contract.
+-- `session::status::send` meets its contract: the ledger's three outcomes.
 use Prim.Native.Nat.{_-_, _≤_}
 use mathlib.Core.Path.{refl, _∙_}
 use borrow.Author.Needs.{needs}

@@ -1,4 +1,4 @@
--- `session::status::snack` meets its contract.
+-- `session::status::snack` meets its contract: the ledger's run, of what the PDU asks for.
 use Prim.Native.Nat.{_-_, _≤_}
 use mathlib.Core.Path.{refl, _∙_}
 use mathlib.Core.List.{[]}
