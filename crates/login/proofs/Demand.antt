@@ -15,19 +15,19 @@ use Rattle.header.specs.declared.request.Pdu.{Pdu}
 use Rattle.header.specs.declared.request.Request.{Request}
 use Rattle.header.specs.declared.request.Request.the-variants as R
 use Rattle.text.specs.Text.{pick}
-use Rattle.text.specs.Block.{formed, pairs}
+use Rattle.text.specs.Block.{Pair, formed, pairs}
 use Rattle.text.proofs.Laws.{&&-left, &&-right, &&-true, &&-false, false-true, past, here}
-use Rattle.keys.specs.Settle.{noneSeen}
-use Rattle.keys.specs.Table.{standards}
+use Rattle.keys.specs.Settle.{noneSeen, settling}
+use Rattle.keys.specs.Table.{standards, rows, rowAt, keyOf}
 use Rattle.keys.specs.declared.parameters.Settled.{Settled}
 use Rattle.keys.proofs.Ranges.{settled-in}
 use Rattle.login.specs.Block.{judge, Result, stopped, went}
 use Rattle.login.specs.Login.{Answer, refused, answered, Outcome, Texted, refuse, fail, Check, check, checks, firstBroken, statusOf, permitted, joined, gatherStep, startText, named, handle, stageAfter, settledLogin, accept, failText, finish, textStep, withGather, judgeStep, requestStep, kindStep, readStep, loginStep, freshLogin}
-use Rattle.login.specs.Demand.{named3, asks, asksIn, accepted, enters, Cause, check-broken, form-broken, pair-refused, names-lacking, blockIn, inForce, valueAfter, judgedOf, judgedIn, textOf, isSix, Promised, Demand}
+use Rattle.login.specs.Demand.{named3, asks, asksIn, accepted, enters, Cause, check-broken, form-broken, pair-refused, names-lacking, blockIn, inForce, valueAfter, judgedOf, judgedIn, textOf, isSix, Promised, Call, stepOf, loginAfter, offersIn, taken, Demand}
 use Rattle.login.specs.declared.state.State.{State}
 use Rattle.login.proofs.Area.{status-kept}
 use Rattle.login.proofs.Answers.{reading, start-length}
-use Rattle.login.proofs.Values.{judged-value, judged-length, judged-stop}
+use Rattle.login.proofs.Values.{judged-value, judged-count, judged-length, judged-stop}
 
 true-false : {A : Type 0} → true ≡ false → A
 true-false e = false-true (sym e)
@@ -97,6 +97,7 @@ module _ (l : State) (pdu : List ℕ) (live : ℕ) (ours g t : List ℕ) where
     caused = λ s h p q r f. absurd (let z : n ≡ 6 = cc in eqb-false n 6 e z);
     text-front = refl;
     text-short = omega arith;
+    count = refl;
     values = λ h k b. rw (none-in (readPdu limits pdu) l pdu g (refused n 0) refl);
   }
 
@@ -120,6 +121,7 @@ module _ (l : State) (pdu : List ℕ) (live : ℕ) (ours g t : List ℕ) where
       caused = λ s₁ h p₁ q₁ r f₁. let z : s ≡ s₁ = cc in subst (λ (x : ℕ). Cause l q₁ (length (dataOf pdu p₁)) live ours (blockIn l (dataOf pdu p₁) g) x) z (one-login p p₁ q q₁ e r f f₁ s c);
       text-front = refl;
       text-short = omega arith;
+      count = refl;
       values = λ h k b. rw (none-in (readPdu limits pdu) l pdu g (refused 6 s) refl);
     }
 
@@ -133,6 +135,7 @@ module _ (l : State) (pdu : List ℕ) (live : ℕ) (ours g t : List ℕ) where
       caused = λ s₁ h p₁ q₁ r f₁. absurd (let z : _≡_ {A = ℕ} 0 1 = cc in omega arith);
       text-front = refl;
       text-short = omega arith;
+      count = refl;
       values = λ h k b. rw (e, f, c);
     }
 
@@ -148,6 +151,7 @@ module _ (l : State) (pdu : List ℕ) (live : ℕ) (ours g t : List ℕ) where
       caused = λ s₁ x p₁ q₁ r f₁. absurd (let z : _≡_ {A = ℕ} 0 1 = cc in omega arith);
       text-front = refl;
       text-short = omega (arith, judged-length (q .csg) (eqb (q .tsih) 0) ours 64 (l .settled) (startText (l .judged)) (blockIn l (dataOf pdu p) g) s a w j, start-length (l .judged));
+      count = judged-count (q .csg) (eqb (q .tsih) 0) ours (l .settled) (startText (l .judged)) (pairs 64 (blockIn l (dataOf pdu p) g)) s a j;
       values = λ x k b.
           judged-value (q .csg) (eqb (q .tsih) 0) ours (l .settled) (startText (l .judged)) (pairs 64 (blockIn l (dataOf pdu p) g)) s a j x k b
           ∙ ap (valueAfter k (inForce (l .settled) k)) (sym (own-in (readPdu limits pdu) p q l pdu g (accept q new s a t .answer) e f c refl));
@@ -221,6 +225,41 @@ module _ (l : State) (pdu : List ℕ) (live : ℕ) (ours g t : List ℕ) where
       (λ _. choose (l .over) _ _ (λ _. stays 8 refl)
       (λ _. walk-read new (readPdu limits pdu) refl)))
 
-pub demand : Demand
+-- ---- a whole login
+
+value-append : (k x : ℕ) (ps qs : List Pair) → valueAfter k x (ps ++ qs) ≡ valueAfter k (valueAfter k x ps) qs
+value-append k x [] qs = refl
+value-append k x (p ∷ ps) qs = value-append k (pick (eqb (keyOf (p .name)) k) (taken x (settling (rowAt k) (p .value))) x) ps qs
+
+history-from : (l : State) (cs : List Call) (k : ℕ) → k < 12 → length (l .settled .parameters .values) ≡ 12 → inForce (loginAfter l cs .settled) k ≡ valueAfter k (inForce (l .settled) k) (offersIn l cs)
+history-from l [] k h n = refl
+history-from l (c ∷ cs) k h n =
+    let o = stepOf l c in
+    let w = promised l (c .pdu) (c .live) (c .ours) (c .gather) (c .text) (c .new) in
+    history-from (o .state) cs k h (w .count ∙ n)
+    ∙ ap (λ (x : ℕ). valueAfter k x (offersIn (o .state) cs)) (w .values n k h)
+    ∙ sym (value-append k (inForce (l .settled) k) (judgedIn (readPdu limits (c .pdu)) l (c .pdu) (c .gather) (o .answer)) (offersIn (o .state) cs))
+
+stays-go : (b : Bool) (x y : ℕ) → b ≡ false → pick b y x ≡ x
+stays-go true x y e = true-false e
+stays-go false x y e = refl
+
+until : (k x : ℕ) (ps : List Pair) → ((p : Pair) → List·Memᴰ p ps → keyOf (p .name) ≡ k → ⊥) → valueAfter k x ps ≡ x
+until k x [] n = refl
+until k x (p ∷ ps) n =
+    ap (λ (y : ℕ). valueAfter k y ps) (stays-go (eqb (keyOf (p .name)) k) x _ (ne-eqb (keyOf (p .name)) k (n p (List·Memᴰ·head refl))))
+    ∙ until k x ps (λ d i. n d (List·Memᴰ·tail i))
+
+fresh-values : freshLogin .settled .parameters .values ≡ standards
 unfolding freshLogin noneSeen
-demand = record { step = λ l pdu live new ours g t. promised l pdu live ours g t new; standard = λ k. refl; range = settled-in }
+fresh-values = refl
+
+fresh-count : length (freshLogin .settled .parameters .values) ≡ 12
+unfolding freshLogin noneSeen standards rows
+fresh-count = refl
+
+history : (cs : List Call) (k : ℕ) → k < 12 → inForce (loginAfter freshLogin cs .settled) k ≡ valueAfter k (getD standards k 0) (offersIn freshLogin cs)
+history cs k h = history-from freshLogin cs k h fresh-count ∙ ap (λ (v : List ℕ). valueAfter k (getD v k 0) (offersIn freshLogin cs)) fresh-values
+
+pub demand : Demand
+demand = record { step = λ l pdu live new ours g t. promised l pdu live ours g t new; history = history; until-offered = until; range = settled-in }

@@ -113,6 +113,15 @@ module _ (stage : ℕ) (leading : Bool) (ours : List ℕ) where
       judged-value (after s i j) (t ++ saidText (p .name) j) ps u a (went-on (stopOf j) _ u a e) (after-count s i j ∙ l) k h
       ∙ ap (λ (x : ℕ). valueAfter k x ps) (after-value s i k j h l ∙ pair-go (eqb i k) s stage leading ours i k (p .value) refl h go)
 
+  pub judged-count : (s : Settled) (t : List ℕ) (ps : List Pair) (u : Settled) (a : List ℕ) → judge stage leading ours s t ps ≡ went u a
+      → length (u .parameters .values) ≡ length (s .parameters .values)
+  unfolding judge
+  judged-count s t [] u a e = let z : s ≡ u = cc in rw z
+  judged-count s t (p ∷ ps) u a e =
+      let i = keyOf (p .name) in
+      let j = judgePair stage leading ours s p in
+      judged-count (after s i j) (t ++ saidText (p .name) j) ps u a (went-on (stopOf j) _ u a e) ∙ after-count s i j
+
   -- How long the answer can be: 78 bytes a pair.
   length-go : (x : Bool) (n : ℕ) (s : Settled) (t b : List ℕ) (u : Settled) (a : List ℕ) → (x || (goodFirst b && formed n (restOf b))) ≡ true
       → judge stage leading ours s t (pick x [] (record { name = nameIn b; value = valueIn b } ∷ pairs n (restOf b))) ≡ went u a

@@ -126,13 +126,39 @@ pub record Promised (l : State) (pdu : List ℕ) (live : ℕ) (ours g t : List �
   pub text-front : o .text ≡ textOf (o .answer) ++ drop (length (textOf (o .answer))) t
   pub text-short : length (textOf (o .answer)) ≤ 5015
   -- a key's value in force changes by that key's own offers alone
+  pub count : length (o .state .settled .parameters .values) ≡ length (l .settled .parameters .values)
   pub values : length (l .settled .parameters .values) ≡ 12 → (k : ℕ) → k < 12
       → inForce (o .state .settled) k ≡ valueAfter k (inForce (l .settled) k) (judgedIn (readPdu limits pdu) l pdu g (o .answer))
+
+-- ---- a whole login
+
+-- what a request is given, with what the lent areas hold at that call
+pub record Call : Type 0 where
+  pub pdu : List ℕ
+  pub live : ℕ
+  pub new : ℕ
+  pub ours : List ℕ
+  pub gather : List ℕ
+  pub text : List ℕ
+
+abbrev pub stepOf : State → Call → Outcome
+stepOf l c = loginStep l (c .pdu) (c .live) (c .new) (c .ours) (c .gather) (c .text)
+
+-- the login after a list of calls, and the pairs that were settled in them
+abbrev pub loginAfter : State → List Call → State
+loginAfter l [] = l
+loginAfter l (c ∷ cs) = loginAfter (stepOf l c .state) cs
+
+abbrev pub offersIn : State → List Call → List Pair
+offersIn l [] = []
+offersIn l (c ∷ cs) = judgedIn (readPdu limits (c .pdu)) l (c .pdu) (c .gather) (stepOf l c .answer) ++ offersIn (stepOf l c .state) cs
 
 pub record Demand : Type 0 where
   -- what every request's answer keeps to
   pub step : (l : State) (pdu : List ℕ) (live new : ℕ) (ours g t : List ℕ) → Promised l pdu live ours g t (loginStep l pdu live new ours g t)
-  -- before the first request a key's standard value is in force
-  pub standard : (k : ℕ) → inForce (freshLogin .settled) k ≡ getD standards k 0
+  -- after any list of calls from a fresh login, a key's value in force is what that key's own offers made of its standard value
+  pub history : (cs : List Call) (k : ℕ) → k < 12 → inForce (loginAfter freshLogin cs .settled) k ≡ valueAfter k (getD standards k 0) (offersIn freshLogin cs)
+  -- and without an offer of its own it stays
+  pub until-offered : (k x : ℕ) (ps : List Pair) → ((p : Pair) → List·Memᴰ p ps → keyOf (p .name) ≡ k → ⊥) → valueAfter k x ps ≡ x
   -- a settled value is within its range
   pub range : (k : ℕ) → k < 12 → (v : List ℕ) (n : ℕ) (r : Reply) → settling (rowAt k) v ≡ J.Settles n r → In (rowAt k .low) (rowAt k .high) n
