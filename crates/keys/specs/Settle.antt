@@ -1,5 +1,5 @@
 -- What the value of a key of the table settles, and how it is answered.
-use Prim.Native.Nat.{ℕ}
+use Prim.Native.Nat.{ℕ, _≤_}
 use mathlib.Core.Bool.{Bool, true, false, _&&_, _||_}
 use mathlib.Core.List.{List}
 use lib.ListN.{set, replicate, getD}
@@ -76,3 +76,8 @@ valued p k n = record { values = set (p .values) k n }
 -- before any key came every standard value is in force
 unfoldable pub noneSeen : Settled
 noneSeen = record { seen = replicate 28 false; parameters = record { values = standards } }
+
+-- n lies in a range
+pub record In (low high n : ℕ) : Type 0 where
+  pub least : low ≤ n
+  pub most : n ≤ high

@@ -76,7 +76,7 @@ reading-go false false false true b5 p e = let z : _≡_ {A = ℕ} 4 6 = cc in o
 reading-go false false false false true p e = let z : _≡_ {A = ℕ} 0 1 = cc in omega arith
 reading-go false false false false false p e = let z : _≡_ {A = ℕ} 3 6 = cc in omega arith
 
-reading : (m : Limits) (s : List ℕ) → readPdu m s ≡ Read.refused 6 → ⊥
+pub reading : (m : Limits) (s : List ℕ) → readPdu m s ≡ Read.refused 6 → ⊥
 unfolding readPdu judged
 reading m s e =
     reading-go (ltb (length s) 48) (not (known (opcodeOf s))) (ltb (m .«data_segment») (dataLengthOf s)) (not (eqb (length s) (statedLength s)))

@@ -62,6 +62,10 @@ all-loud : (l : State) (q : Login) (n live : ℕ) → below (loud l q n live) 8 
 unfolding loud
 all-loud l q n live = refl
 
-pub status-fits : (l : State) (q : Login) (n live : ℕ) → statusOf l q n live ≡ 0 → l .gathered + n ≤ 8192
+-- every check's rule is kept where the status is 0
+pub status-kept : (l : State) (q : Login) (n live : ℕ) → statusOf l q n live ≡ 0 → (k : ℕ) → getD (checks l q n live) k (check false 1) .broken ≡ false
 unfolding statusOf loud
-status-fits l q n live e = ltb-false 8192 (l .gathered + n) (kept (checks l q n live) 7 e (λ i p. leb-true _ _ (at (loud l q n live) 8 (all-loud l q n live) i p)))
+status-kept l q n live e k = kept (checks l q n live) k e (λ i p. leb-true _ _ (at (loud l q n live) 8 (all-loud l q n live) i p))
+
+pub status-fits : (l : State) (q : Login) (n live : ℕ) → statusOf l q n live ≡ 0 → l .gathered + n ≤ 8192
+status-fits l q n live e = ltb-false 8192 (l .gathered + n) (status-kept l q n live e 7)

@@ -2,3 +2,5 @@ pub mod Steps
 pub mod Blocks
 pub mod Area
 pub mod Answers
+pub mod Values
+pub mod Demand
