@@ -98,12 +98,14 @@ fn trap_46_standard_values(e: &mut dyn Engine) {
             "MaxConnections=9",
             "ErrorRecoveryLevel=2",
             "ImmediateData=No",
+            "DefaultTime2Wait=9",
         ],
     );
     let settled = Parameters {
         max_connections: 4,
         error_recovery_level: 1,
         immediate_data: false,
+        default_time2wait: 9,
         ..STANDARD
     };
     assert_eq!(e.parameters(), settled);
@@ -125,6 +127,7 @@ fn trap_47_first_burst_length_is_not_bounded(e: &mut dyn Engine) {
         said,
         first(&["MaxBurstLength=512", "FirstBurstLength=65536"])
     );
+    assert_eq!(e.parameters().first_burst_length, 65_536);
 }
 
 fn trap_48_the_declared_key(e: &mut dyn Engine) {

@@ -6,6 +6,7 @@ use calls::{Engine, HEADER_BYTES, LogoutCounts, Offer, Out, Refusal, Take};
 
 checks![
     trap_14_passed_is_for_numbers_handed_out,
+    trap_14_passed_far_back,
     trap_15_a_void_number_is_held,
     trap_16_sixty_four_without_a_gap,
     trap_17_the_wrap,
@@ -76,6 +77,20 @@ fn trap_14_passed_is_for_numbers_handed_out(e: &mut dyn Engine) {
     ] {
         assert_eq!(offer(e, 0, number, 1), answer, "{number}");
     }
+}
+
+fn trap_14_passed_far_back(e: &mut dyn Engine) {
+    e.begin_session(0xffff_ff80, 1, 0);
+    for i in 0..300u32 {
+        let number = 0xffff_ff80u32.wrapping_add(i);
+        assert_eq!(offer(e, 0, number, i), Offer::Kept);
+        assert_eq!(take(e), out(number, i, Some(0)));
+    }
+    for i in 0..300u32 {
+        let number = 0xffff_ff80u32.wrapping_add(i);
+        assert_eq!(offer(e, 0, number, i), Offer::Passed);
+    }
+    assert_eq!(offer(e, 0, 0xffff_ff7f, 1), Offer::Beyond);
 }
 
 fn trap_15_a_void_number_is_held(e: &mut dyn Engine) {
@@ -155,6 +170,7 @@ fn trap_18_reason_0_takes_all(e: &mut dyn Engine) {
     assert_eq!(e.logout(1, 2), counts(1, 0));
     // 10 and 12 have no origin now, 11 and 15 are connection 0's.
     assert_eq!(e.logout(1, 0), Err(Refusal::Closed));
+    e.open(2, 1).unwrap();
     assert_eq!(e.logout(0, 0), counts(1, 3));
     for number in 10..13 {
         assert_eq!(take(e), Take::Void(number));
