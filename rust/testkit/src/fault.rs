@@ -114,11 +114,17 @@ pub enum Fault {
     VersionIgnored,
     /// The login may go on after full feature phase.
     FullFeatureGoesOn,
+    /// Hollow: every numbered offer is beyond.
+    OfferAlwaysBeyond,
+    /// Hollow: every take is empty.
+    TakeAlwaysNothing,
+    /// Hollow: every login is refused.
+    LoginAlwaysRefused,
 }
 
 impl Fault {
     /// Every fault.
-    pub const ALL: [Fault; 51] = [
+    pub const ALL: [Fault; 54] = [
         Fault::OpcodeBeforeShort,
         Fault::LengthBeforeTooLong,
         Fault::PadWordTooMany,
@@ -170,6 +176,9 @@ impl Fault {
         Fault::LiveIgnored,
         Fault::VersionIgnored,
         Fault::FullFeatureGoesOn,
+        Fault::OfferAlwaysBeyond,
+        Fault::TakeAlwaysNothing,
+        Fault::LoginAlwaysRefused,
     ];
 }
 

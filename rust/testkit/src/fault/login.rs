@@ -16,6 +16,9 @@ impl<E: Engine + Clone> Broken<E> {
         pdu: &[u8],
     ) -> Result<LoginAnswer, Refusal> {
         let before = self.inner.clone();
+        let lent = self
+            .is(Fault::LoginAlwaysRefused)
+            .then(|| (gather.to_vec(), text.to_vec()));
         let mut shown = self.disguised(pdu);
         if self.is(Fault::TwiceAccepted) {
             shown = without_repeats(&shown);
@@ -29,6 +32,11 @@ impl<E: Engine + Clone> Broken<E> {
             live
         };
         let answer = self.inner.login(live, new, gather, text, &shown);
+        if let (Some((gathered, empty)), Ok(_)) = (lent, answer) {
+            gather.copy_from_slice(&gathered);
+            text.copy_from_slice(&empty);
+            return Err(Refusal::Login(0x0200));
+        }
         match (self.fault, answer) {
             (Fault::MissingIsInitiatorError, Err(Refusal::Login(0x0207))) => {
                 Err(Refusal::Login(0x0200))

@@ -38,7 +38,12 @@ impl<E: Engine + Clone> Engine for Broken<E> {
             shown[0] &= 0x3f;
         }
         let connection = self.connection(connection);
+        let before = self.inner.clone();
         let offer = self.inner.offer(connection, ticket, &shown)?;
+        if self.is(Fault::OfferAlwaysBeyond) && offer != Offer::Immediate {
+            self.inner = before;
+            return Ok(Offer::Beyond);
+        }
         let cmd_sn = number(pdu, 24);
         let back = self.next_cmd_sn().wrapping_sub(cmd_sn);
         match self.fault {
@@ -53,6 +58,9 @@ impl<E: Engine + Clone> Engine for Broken<E> {
     }
 
     fn take(&mut self, out: &mut [u8]) -> Result<Take, Refusal> {
+        if self.is(Fault::TakeAlwaysNothing) && out.len() >= HEADER_BYTES {
+            return Ok(Take::Nothing);
+        }
         let mut taken = self.inner.take(out);
         match &mut taken {
             Ok(Take::Void(_)) => {
