@@ -10,6 +10,8 @@ mod sequences;
 mod window;
 mod writing;
 
+pub use login_keys::LIBISCSI;
+
 use calls::{Engine, HEADER_BYTES, Response};
 
 /// A check: it panics where the engine is wrong.

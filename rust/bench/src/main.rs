@@ -1,0 +1,31 @@
+//! `cargo run --release -p bench`: nanoseconds per call of every engine, side by side in one run, the median of several
+//! rounds, with ratios to the hand-optimised one; then what a long history costs.
+
+mod cases;
+mod history;
+mod table;
+mod timing;
+
+use bench::Fast;
+use model::Model;
+
+fn main() {
+    let rounds = 9;
+    println!(
+        "median of {rounds} rounds, engines in turn; lent outputs are not cleared between calls"
+    );
+    let mut columns = vec![
+        table::Column::new("hand-optimised", cases::all::<Fast>()),
+        table::Column::new("model", cases::all::<Model>()),
+    ];
+    for round in 0..rounds {
+        eprintln!("round {} of {rounds}", round + 1);
+        for column in &mut columns {
+            column.measure();
+        }
+    }
+    table::print(&columns);
+    println!();
+    history::print::<Fast>("hand-optimised");
+    history::print::<Model>("model");
+}
