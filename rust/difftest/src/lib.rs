@@ -4,7 +4,9 @@
 mod compare;
 mod coverage;
 mod generate;
+mod seed;
 
 pub use compare::{Difference, Report, run};
 pub use coverage::{Coverage, required};
 pub use generate::Area;
+pub use seed::seed;

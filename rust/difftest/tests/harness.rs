@@ -1,7 +1,7 @@
 //! The harness itself: it is clean where engines agree, it finds every fault, and it isn't content with a run that
 //! left something out.
 
-use difftest::{Area, run};
+use difftest::{Area, run, seed};
 use model::Model;
 use testkit::{Broken, Fault};
 
@@ -14,11 +14,10 @@ fn broken(fault: Fault) -> Broken<Model> {
 
 #[test]
 fn two_right_engines_agree_and_everything_is_reached() {
-    println!("seed {SEED}");
     let report = run(
         Model::default(),
         broken(Fault::None),
-        SEED,
+        seed(SEED),
         CALLS,
         &Area::ALL,
     )
@@ -29,8 +28,8 @@ fn two_right_engines_agree_and_everything_is_reached() {
 
 #[test]
 fn every_fault_is_found() {
-    println!("seed {SEED}");
-    let found = |fault| run(Model::default(), broken(fault), SEED, CALLS, &Area::ALL).is_err();
+    let seed = seed(SEED);
+    let found = |fault| run(Model::default(), broken(fault), seed, CALLS, &Area::ALL).is_err();
     let missed: Vec<_> = Fault::ALL
         .into_iter()
         .filter(|&fault| !found(fault))

@@ -1,6 +1,6 @@
 //! An engine with one fault, to show that the tests find it. Each fault is a mistake that a careful reader could make.
 
-use calls::{Engine, Offer, Response};
+use calls::{Engine, Response};
 use std::collections::{BTreeMap, BTreeSet};
 
 mod headers;
@@ -239,9 +239,4 @@ fn number(bytes: &[u8], at: usize) -> u32 {
     bytes[at..at + 4]
         .iter()
         .fold(0, |n, &b| n << 8 | u32::from(b))
-}
-
-/// The answer of an offer, as this fault sees it.
-fn is_beyond(offer: Offer) -> bool {
-    offer == Offer::Beyond
 }

@@ -1,6 +1,6 @@
 //! Faults in the window and the ledgers, and the wrapper's calls.
 
-use super::{Broken, Fault, Seen, is_beyond, is_ping, number};
+use super::{Broken, Fault, Seen, is_ping, number};
 use calls::{
     Engine, HEADER_BYTES, LoginAnswer, LogoutCounts, Numbers, Offer, Parameters, Pdu, Refusal,
     Response, Run, Take, Window,
@@ -47,7 +47,7 @@ impl<E: Engine + Clone> Engine for Broken<E> {
         let cmd_sn = number(pdu, 24);
         let back = self.next_cmd_sn().wrapping_sub(cmd_sn);
         match self.fault {
-            Fault::BehindIsPassed if is_beyond(offer) && back <= 1 << 31 => Ok(Offer::Passed),
+            Fault::BehindIsPassed if offer == Offer::Beyond && back <= 1 << 31 => Ok(Offer::Passed),
             Fault::PassedForgets if offer == Offer::Passed && back > 64 => Ok(Offer::Beyond),
             Fault::DuplicateReplaces if offer == Offer::Duplicate => {
                 self.seen.tickets.insert(cmd_sn, ticket);
