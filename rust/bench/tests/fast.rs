@@ -17,3 +17,10 @@ fn the_fast_engine_answers_as_the_model() {
     let report = run(Model::default(), Fast::default(), seed, 420_000, &Area::ALL).unwrap();
     report.coverage.assert_whole();
 }
+
+/// Minutes: `cargo test --release -p bench -- --ignored`.
+#[test]
+#[ignore = "hands out 2^31 commands"]
+fn the_fast_engine_forgets_after_2_31_hand_outs() {
+    testkit::traps::long::trap_14_passed_ends_after_2_31(&mut Fast::default());
+}

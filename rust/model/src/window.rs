@@ -142,3 +142,29 @@ impl CommandWindow {
         counts
     }
 }
+
+#[cfg(test)]
+mod tests {
+    use super::*;
+
+    /// A window that handed out `count` numbers from 10 on; only the first few are written down, which is enough for
+    /// the questions below.
+    fn after(count: u64) -> CommandWindow {
+        CommandWindow {
+            first: 10,
+            hand_outs: count,
+            handed: (0..4).map(|at| (10 + at as u32, at)).collect(),
+            held: BTreeMap::new(),
+        }
+    }
+
+    #[test]
+    fn trap_14_the_last_2_31_hand_outs_are_passed() {
+        let mut all = after(1 << 31);
+        assert_eq!(all.offer(10, [0; 48], 1, 0), Offer::Passed);
+        assert_eq!(all.offer(9, [0; 48], 1, 0), Offer::Beyond);
+        let mut one_more = after((1 << 31) + 1);
+        assert_eq!(one_more.offer(10, [0; 48], 1, 0), Offer::Beyond);
+        assert_eq!(one_more.offer(11, [0; 48], 1, 0), Offer::Passed);
+    }
+}

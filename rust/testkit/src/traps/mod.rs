@@ -5,6 +5,7 @@ mod ledger;
 mod login;
 mod login_keys;
 mod login_steps;
+pub mod long;
 mod reading;
 mod sequences;
 mod window;
