@@ -167,6 +167,8 @@ fn trap_40_cut_anywhere(e: &mut dyn Engine) {
         talk.ask(OPERATIONAL | MORE, &whole[..cut]).unwrap();
         let (_, text) = talk.ask(OPERATIONAL, &whole[cut..]).unwrap();
         assert_eq!(text, wanted, "cut at {cut}");
+        let joined = if cut == 0 { &[][..] } else { &whole };
+        assert!(talk.gather.starts_with(joined), "cut at {cut}");
     }
 }
 
