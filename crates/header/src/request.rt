@@ -1,5 +1,7 @@
 // A read PDU: its common fields together with one of six requests. Fields are named as RFC 7143 names them.
 use crate::refusal::Refusal;
+ghost use mathlib.Core.Path.{_≡_};
+ghost use Rattle.header.specs.Request.{limits};
 
 pub struct NopOut {
     pub target_transfer_tag: u32,
@@ -84,6 +86,13 @@ pub const LIMITS: Limits = Limits {
     data_segment: 8192,
     task_function: 8,
 };
+
+// They are those of the rules.
+pub fn limits_in_force() -> Limits
+    ensures { λ r. ⌜ r ≡ limits ⌝ }
+{
+    LIMITS
+}
 
 pub enum ReadAnswer {
     Got(Pdu),

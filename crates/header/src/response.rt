@@ -1,5 +1,7 @@
 // The six responses that are written, and the three numbers that each carries.
 use crate::refusal::Refusal;
+ghost use mathlib.Core.Path.{_≡_};
+ghost use Rattle.header.specs.Response.{maxData};
 
 pub struct NopIn {
     pub data_segment_length: u32,
@@ -66,6 +68,13 @@ pub struct Numbers {
 
 // The longest data segment that a response may state.
 pub const MAX_DATA: u32 = 8192;
+
+// It is that of the rules.
+pub fn max_data_in_force() -> u32
+    ensures { λ r. ⌜ r ≡ maxData ⌝ }
+{
+    MAX_DATA
+}
 
 // A response by itself: whether it can be written.
 pub enum Judgement {

@@ -1,0 +1,10 @@
+use borrow.Author.Needs.{needs}
+use Rattle.capi.proofs.words.scsi_response.Statement.{statement}
+use Rattle.capi.proofs.words.scsi_response.Tie as tie
+
+pub scsi-response-spec : {M : Type 1} → statement M
+scsi-response-spec =
+    tie.close (tie.spec
+    (λ c. search needs) (λ c. search needs) (λ c. search needs) (λ c κs. search needs) (λ c. search needs)
+    (λ c κs. search needs) (λ c. search needs) (λ c κs. search needs) (λ c. search needs) (λ c κs. search needs)
+    (λ c. search needs) (λ c κs. search needs) (λ c. search needs) (λ c κs. search needs) (λ c. cc))

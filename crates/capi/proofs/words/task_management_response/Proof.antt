@@ -1,0 +1,8 @@
+use borrow.Author.Needs.{needs}
+use Rattle.capi.proofs.words.task_management_response.Statement.{statement}
+use Rattle.capi.proofs.words.task_management_response.Tie as tie
+
+pub task-management-response-spec : {M : Type 1} → statement M
+task-management-response-spec =
+    tie.close (tie.spec
+    (λ c. search needs) (λ c κs. search needs) (λ c. search needs) (λ c κs. search needs) (λ c. cc))

@@ -1,0 +1,115 @@
+-- PDUs and responses as words: the order of the fields in the structs of drawbevel.h.
+use Prim.Native.Nat.{ℕ, _%_, _^_}
+use mathlib.Core.Bool.{Bool, true, false, not}
+use mathlib.Core.List.{List, [], _∷_}
+use lib.ListN.{getD}
+use lib.Dec.{eqb}
+use Rattle.header.specs.Field.{pick}
+use Rattle.header.specs.declared.request.Request.{Request}
+use Rattle.header.specs.declared.request.Request.the-variants as Q
+use Rattle.header.specs.declared.request.Pdu.{Pdu}
+use Rattle.header.specs.declared.response.NopIn.{NopIn}
+use Rattle.header.specs.declared.response.ScsiResponse.{ScsiResponse}
+use Rattle.header.specs.declared.response.TaskManagementResponse.{TaskManagementResponse}
+use Rattle.header.specs.declared.response.LoginResponse.{LoginResponse}
+use Rattle.header.specs.declared.response.LogoutResponse.{LogoutResponse}
+use Rattle.header.specs.declared.response.Reject.{Reject}
+use Rattle.header.specs.declared.response.Response.the-variants as R
+use Rattle.capi.specs.declared.words.Made.{Made}
+use Rattle.capi.specs.declared.words.Made.the-variants.{Known, Unknown}
+
+-- ---- read
+
+-- a bit is 1 where it is set
+abbrev pub flagWord : Bool → ℕ
+flagWord b = pick b 1 0
+
+-- the opcode and the request's own fields
+unfoldable pub requestWords : Request → List ℕ
+requestWords (Q.NopOut x) = 0x00 ∷ x .«target_transfer_tag» ∷ 0 ∷ 0 ∷ 0 ∷ 0 ∷ 0 ∷ 0 ∷ 0 ∷ 0 ∷ []
+requestWords (Q.ScsiCommand x) =
+    0x01 ∷ flagWord (x .«is_final») ∷ flagWord (x .«is_read») ∷ flagWord (x .«is_write») ∷ x .attribute ∷ x .«total_ahs_length»
+    ∷ x .«expected_data_transfer_length» ∷ x .«cdb_0» ∷ x .«cdb_1» ∷ 0 ∷ []
+requestWords (Q.TaskManagement x) =
+    0x02 ∷ x .function ∷ x .«referenced_task_tag» ∷ x .«ref_cmd_sn» ∷ x .«exp_data_sn» ∷ 0 ∷ 0 ∷ 0 ∷ 0 ∷ 0 ∷ []
+requestWords (Q.Login x) =
+    0x03 ∷ flagWord (x .transit) ∷ flagWord (x .continues) ∷ x .csg ∷ x .nsg ∷ x .«version_max» ∷ x .«version_min» ∷ x .isid ∷ x .tsih ∷ x .cid ∷ []
+requestWords (Q.Logout x) = 0x06 ∷ x .reason ∷ x .cid ∷ 0 ∷ 0 ∷ 0 ∷ 0 ∷ 0 ∷ 0 ∷ 0 ∷ []
+requestWords (Q.Snack x) = 0x10 ∷ x .«snack_type» ∷ x .«target_transfer_tag» ∷ x .«beg_run» ∷ x .«run_length» ∷ 0 ∷ 0 ∷ 0 ∷ 0 ∷ 0 ∷ []
+
+-- word i
+abbrev pub word : List ℕ → ℕ → ℕ
+word w i = getD w i 0
+
+-- the opcode, the common fields, the place of the data segment, and the request's own fields
+unfoldable pub pduWords : Pdu → List ℕ
+pduWords p =
+    word (requestWords (p .request)) 0 ∷ flagWord (p .immediate) ∷ p .«cmd_sn» ∷ p .lun ∷ p .«initiator_task_tag» ∷ p .«exp_stat_sn»
+    ∷ p .«data_start» ∷ p .«data_segment_length»
+    ∷ word (requestWords (p .request)) 1 ∷ word (requestWords (p .request)) 2 ∷ word (requestWords (p .request)) 3
+    ∷ word (requestWords (p .request)) 4 ∷ word (requestWords (p .request)) 5 ∷ word (requestWords (p .request)) 6
+    ∷ word (requestWords (p .request)) 7 ∷ word (requestWords (p .request)) 8 ∷ word (requestWords (p .request)) 9 ∷ []
+
+-- ---- written
+
+-- a bit is set where its word isn't 0
+abbrev pub isSet : ℕ → Bool
+isSet x = not (eqb x 0)
+
+abbrev pub nopInOf : List ℕ → NopIn
+nopInOf w = record {
+  «data_segment_length» = word w 1 % 2 ^ 32;
+  lun = word w 2;
+  «initiator_task_tag» = word w 3 % 2 ^ 32;
+  «target_transfer_tag» = word w 4 % 2 ^ 32;
+}
+
+abbrev pub scsiResponseOf : List ℕ → ScsiResponse
+scsiResponseOf w = record {
+  overflow = isSet (word w 1);
+  underflow = isSet (word w 2);
+  response = word w 3 % 2 ^ 8;
+  status = word w 4 % 2 ^ 8;
+  «data_segment_length» = word w 5 % 2 ^ 32;
+  «initiator_task_tag» = word w 6 % 2 ^ 32;
+  «snack_tag» = word w 7 % 2 ^ 32;
+  «residual_count» = word w 8 % 2 ^ 32;
+}
+
+abbrev pub taskManagementResponseOf : List ℕ → TaskManagementResponse
+taskManagementResponseOf w = record { response = word w 1 % 2 ^ 8; «initiator_task_tag» = word w 2 % 2 ^ 32 }
+
+abbrev pub loginResponseOf : List ℕ → LoginResponse
+loginResponseOf w = record {
+  transit = isSet (word w 1);
+  csg = word w 2 % 2 ^ 8;
+  nsg = word w 3 % 2 ^ 8;
+  «data_segment_length» = word w 4 % 2 ^ 32;
+  isid = word w 5;
+  tsih = word w 6 % 2 ^ 16;
+  «initiator_task_tag» = word w 7 % 2 ^ 32;
+  «status_class» = word w 8 % 2 ^ 8;
+  «status_detail» = word w 9 % 2 ^ 8;
+}
+
+abbrev pub logoutResponseOf : List ℕ → LogoutResponse
+logoutResponseOf w = record {
+  response = word w 1 % 2 ^ 8;
+  «initiator_task_tag» = word w 2 % 2 ^ 32;
+  time2wait = word w 3 % 2 ^ 16;
+  time2retain = word w 4 % 2 ^ 16;
+}
+
+abbrev pub rejectOf : List ℕ → Reject
+rejectOf w = record { reason = word w 1 % 2 ^ 8 }
+
+-- the response whose opcode the first word is, each field reduced to its width
+unfoldable pub responseOf : List ℕ → Made
+responseOf w =
+    pick (eqb (word w 0) 0x20) (Known (R.NopIn (nopInOf w)))
+    (pick (eqb (word w 0) 0x21) (Known (R.ScsiResponse (scsiResponseOf w)))
+    (pick (eqb (word w 0) 0x22) (Known (R.TaskManagementResponse (taskManagementResponseOf w)))
+    (pick (eqb (word w 0) 0x23) (Known (R.LoginResponse (loginResponseOf w)))
+    (pick (eqb (word w 0) 0x26) (Known (R.LogoutResponse (logoutResponseOf w)))
+    (pick (eqb (word w 0) 0x3f) (Known (R.Reject (rejectOf w)))
+    Unknown)))))

@@ -1,0 +1,65 @@
+// The header reader and writer for C.
+use crate::words::Made;
+use crate::words::pdu_words;
+use crate::words::response;
+use header::request::LIMITS;
+use header::request::ReadAnswer;
+use header::response::MAX_DATA;
+use header::response::Numbers;
+use header::response::Response;
+use header::response::WriteAnswer;
+ghost use mathlib.Core.Path.{_≡_};
+ghost use Rattle.header.specs.Request.{limits, readPdu};
+ghost use Rattle.header.specs.Response.{Outcome};
+ghost use Rattle.capi.specs.Words.{responseOf};
+ghost use Rattle.capi.specs.Pdu.{ReadWords, readWords, writeWords, numbersOf};
+
+// Reads a PDU: 0 and its words, or the refusal's number, which leaves pdu as it was.
+#[no_mangle]
+pub extern "C" fn drawbevel_read(input: &[u8], pdu: &mut [u64; 17]) -> u32
+    ensures { λ r. ⌜ _≡_ {A = ReadWords} (record { answer = r; words = now (pdu .exit) }) (readWords (readPdu limits (now (input .entry))) (now (pdu .entry))) ⌝ }
+{
+    match header::read::read(input, LIMITS) {
+        ReadAnswer::Refused(f) => header::refusal::number_of(f) as u32,
+        ReadAnswer::Got(p) => {
+            let w = pdu_words(p);
+            *pdu = w;
+            0
+        }
+    }
+}
+
+fn write_known(out: &mut [u8], r: Response, n: Numbers) -> u32
+    ensures { λ k. ⌜ _≡_ {A = Outcome} (record { answer = k; bytes = now (out .exit) }) (Rattle.header.specs.Response.writing 8192 (now (out .entry)) r n) ⌝ }
+{
+    match header::write::write(out, r, n, MAX_DATA) {
+        WriteAnswer::Refused(f) => header::refusal::number_of(f) as u32,
+        WriteAnswer::Written => 0,
+    }
+}
+
+// Writes a response's header into the first 48 bytes of out: 0, or the refusal's number, which leaves every byte.
+// Words that are no response are FIELD, after BUFFER.
+#[no_mangle]
+pub extern "C" fn drawbevel_write(
+    out: &mut [u8],
+    words: &[u64; 10],
+    stat_sn: u32,
+    exp_cmd_sn: u32,
+    max_cmd_sn: u32,
+) -> u32
+    ensures { λ k. ⌜ _≡_ {A = Outcome} (record { answer = k; bytes = now (out .exit) }) (writeWords (responseOf (now (words .entry))) (now (out .entry)) (numbersOf «stat_sn» «exp_cmd_sn» «max_cmd_sn»)) ⌝ }
+{
+    match response(words) {
+        Made::Unknown => { if out.len() < 48 { 1 } else { 3 } }
+        Made::Known(r) => write_known(
+            out,
+            r,
+            Numbers {
+                stat_sn: stat_sn,
+                exp_cmd_sn: exp_cmd_sn,
+                max_cmd_sn: max_cmd_sn,
+            },
+        ),
+    }
+}

@@ -1,0 +1,5 @@
+pub mod Laws
+pub mod Reading
+pub mod Writing
+pub mod Table
+pub mod Layouts

@@ -1,0 +1,32 @@
+use mathlib.Core.Path.{_≡_, refl, sym, ap, _∙_}
+use borrow.Author.Needs.{needs}
+use borrow.Author.Tests.{lt-ltb, le-ltb, le-leb, lt-leb, eq-eqb, ne-eqb, not-true, not-false}
+use Rattle.header.specs.Request.{readPdu}
+use Rattle.header.proofs.read.read.Statement.{statement}
+use Rattle.header.proofs.read.read.Tie as tie
+
+returns : tie.Need-returns
+unfolding readPdu
+returns c = rw (lt-ltb _ _ (c .if1 .taken))
+
+returns-2 : tie.Need-returns-2
+unfolding readPdu
+returns-2 c = rw (le-ltb _ _ (c .before .before .before .if1 .left), ← (c .before .is-known .ensures), c .if2 .taken)
+
+returns-3 : tie.Need-returns-3
+unfolding readPdu
+returns-3 c = rw (le-ltb _ _ (c .before .before .before .before .before .before .if1 .left), ← (c .before .before .before .before .is-known .ensures), c .before .before .before .if2 .left, ← (c .before .data-length .ensures .0), lt-ltb _ _ (c .if3 .taken))
+
+returns-4 : tie.Need-returns-4
+unfolding readPdu
+returns-4 c = rw (le-ltb _ _ (c .before .before .before .before .before .before .before .before .if1 .left), ← (c .before .before .before .before .before .before .is-known .ensures), c .before .before .before .before .before .if2 .left, ← (c .before .before .before .data-length .ensures .0), le-ltb _ _ (c .before .before .if3 .left), ← (c .before .stated-length .ensures), ne-eqb _ _ (c .if4 .taken))
+
+returns-5 : tie.Need-returns-5
+unfolding readPdu
+returns-5 c = rw (le-ltb _ _ (c .before .before .before .before .before .before .before .before .before .if1 .left), ← (c .before .before .before .before .before .before .before .is-known .ensures), c .before .before .before .before .before .before .if2 .left, ← (c .before .before .before .before .data-length .ensures .0), le-ltb _ _ (c .before .before .before .if3 .left), ← (c .before .before .stated-length .ensures), eq-eqb _ _ (c .before .if4 .left)) (c .judge .ensures)
+
+pub read-spec : {M : Type 1} → statement M
+read-spec =
+    tie.close (tie.spec
+    returns (λ c. search needs) (λ c κs. search needs) returns-2 (λ c. search needs) (λ c κs. search needs) returns-3
+    (λ c κs. search needs) returns-4 (λ c κs. search needs) returns-5)

@@ -1,0 +1,226 @@
+// A request PDU, read whole, and its data segment.
+use crate::field::HEADER_BYTES;
+use crate::field::be;
+use crate::field::be16;
+use crate::field::be32;
+use crate::field::flag;
+use crate::refusal::Refusal;
+use crate::request::Limits;
+use crate::request::Login;
+use crate::request::Logout;
+use crate::request::NopOut;
+use crate::request::Pdu;
+use crate::request::ReadAnswer;
+use crate::request::Request;
+use crate::request::ScsiCommand;
+use crate::request::Snack;
+use crate::request::TaskManagement;
+use crate::rules::is_known;
+use crate::rules::rule_ok;
+use crate::rules::shared_ok;
+ghost use mathlib.Core.Path.{_≡_};
+ghost use mathlib.Core.Bool.{_||_};
+ghost use Prim.Native.Nat.{_+_, _^_, _≤_, _<_};
+ghost use lib.ListN.{length};
+ghost use lib.Dec.{eqb};
+ghost use Rattle.header.specs.Field.{beAt, pick};
+ghost use Rattle.header.specs.Request.{nopOutOf, scsiCommandOf, taskManagementOf, loginOf, logoutOf, snackOf, requestOf, dataLengthOf, dataStartOf, statedLength, pduOf, judged, answerOf, readPdu, dataOf};
+
+fn nop_out(s: &[u8]) -> NopOut
+    requires { ⌜ 48 ≤ length (now s) ⌝ }
+    ensures { λ r. ⌜ r ≡ nopOutOf (now (s .entry)) ⌝ }
+{
+    NopOut {
+        target_transfer_tag: be32(s, 20),
+    }
+}
+
+fn scsi_command(s: &[u8]) -> ScsiCommand
+    requires { ⌜ 48 ≤ length (now s) ⌝ }
+    ensures { λ r. ⌜ r ≡ scsiCommandOf (now (s .entry)) ⌝ }
+{
+    let b = s[1];
+    ScsiCommand {
+        is_final: flag(b, 128),
+        is_read: flag(b, 64),
+        is_write: flag(b, 32),
+        attribute: b % 8,
+        total_ahs_length: s[4],
+        expected_data_transfer_length: be32(s, 20),
+        cdb_0: be(s, 32, 8),
+        cdb_1: be(s, 40, 8),
+    }
+}
+
+fn task_management(s: &[u8]) -> TaskManagement
+    requires { ⌜ 48 ≤ length (now s) ⌝ }
+    ensures { λ r. ⌜ r ≡ taskManagementOf (now (s .entry)) ⌝ }
+{
+    TaskManagement {
+        function: s[1] % 128,
+        referenced_task_tag: be32(s, 20),
+        ref_cmd_sn: be32(s, 32),
+        exp_data_sn: be32(s, 36),
+    }
+}
+
+fn login(s: &[u8]) -> Login
+    requires { ⌜ 48 ≤ length (now s) ⌝ }
+    ensures { λ r. ⌜ r ≡ loginOf (now (s .entry)) ⌝ }
+{
+    let b = s[1];
+    Login {
+        transit: flag(b, 128),
+        continues: flag(b, 64),
+        csg: b / 4 % 4,
+        nsg: b % 4,
+        version_max: s[2],
+        version_min: s[3],
+        isid: be(s, 8, 6),
+        tsih: be16(s, 14),
+        cid: be16(s, 20),
+    }
+}
+
+fn logout(s: &[u8]) -> Logout
+    requires { ⌜ 48 ≤ length (now s) ⌝ }
+    ensures { λ r. ⌜ r ≡ logoutOf (now (s .entry)) ⌝ }
+{
+    Logout {
+        reason: s[1] % 128,
+        cid: be16(s, 20),
+    }
+}
+
+fn snack(s: &[u8]) -> Snack
+    requires { ⌜ 48 ≤ length (now s) ⌝ }
+    ensures { λ r. ⌜ r ≡ snackOf (now (s .entry)) ⌝ }
+{
+    Snack {
+        snack_type: s[1] % 16,
+        target_transfer_tag: be32(s, 20),
+        beg_run: be32(s, 40),
+        run_length: be32(s, 44),
+    }
+}
+
+fn request(s: &[u8], op: u8) -> Request
+    requires { ⌜ 48 ≤ length (now s) ⌝ }
+    ensures { λ r. ⌜ r ≡ requestOf op (now (s .entry)) ⌝ }
+{
+    match op {
+        0x00 => Request::NopOut(nop_out(s)),
+        0x01 => Request::ScsiCommand(scsi_command(s)),
+        0x02 => Request::TaskManagement(task_management(s)),
+        0x03 => Request::Login(login(s)),
+        0x06 => Request::Logout(logout(s)),
+        _ => Request::Snack(snack(s)),
+    }
+}
+
+fn data_length(s: &[u8]) -> usize
+    requires { ⌜ 48 ≤ length (now s) ⌝ }
+    ensures { λ r. ⌜ (r ≡ dataLengthOf (now (s .entry))) × (r < 256 ^ 3) ⌝ }
+{
+    be(s, 5, 3) as usize
+}
+
+// Where the data starts: after the additional headers.
+fn data_start(s: &[u8]) -> usize
+    requires { ⌜ 48 ≤ length (now s) ⌝ }
+    ensures { λ r. ⌜ (r ≡ dataStartOf (now (s .entry))) × (r ≤ 1068) ⌝ }
+{
+    HEADER_BYTES + s[4] as usize * 4
+}
+
+fn stated_length(s: &[u8]) -> usize
+    requires { ⌜ 48 ≤ length (now s) ⌝ }
+    ensures { λ r. ⌜ r ≡ statedLength (now (s .entry)) ⌝ }
+{
+    data_start(s) + (data_length(s) + 3) / 4 * 4
+}
+
+// The LUN, which Login and Logout do not have.
+fn lun(s: &[u8], op: u8) -> u64
+    requires { ⌜ 48 ≤ length (now s) ⌝ }
+    ensures { λ r. ⌜ r ≡ pick (eqb op 0x03 || eqb op 0x06) 0 (beAt (now (s .entry)) 8 8) ⌝ }
+{
+    if (op == 0x03) | (op == 0x06) {
+        0
+    } else {
+        be(s, 8, 8)
+    }
+}
+
+// The CmdSN, which SNACK does not have.
+fn cmd_sn(s: &[u8], op: u8) -> u32
+    requires { ⌜ 48 ≤ length (now s) ⌝ }
+    ensures { λ r. ⌜ r ≡ pick (eqb op 0x10) 0 (beAt (now (s .entry)) 24 4) ⌝ }
+{
+    if op == 0x10 { 0 } else { be32(s, 24) }
+}
+
+fn pdu(s: &[u8], op: u8) -> Pdu
+    requires { ⌜ 48 ≤ length (now s) ⌝ }
+    ensures { λ r. ⌜ r ≡ pduOf op (now (s .entry)) ⌝ }
+{
+    let r = request(s, op);
+    Pdu {
+        immediate: flag(s[0], 64) & (op != 0x10),
+        lun: lun(s, op),
+        initiator_task_tag: be32(s, 16),
+        cmd_sn: cmd_sn(s, op),
+        exp_stat_sn: be32(s, 28),
+        request: r,
+        data_start: data_start(s),
+        data_segment_length: data_length(s),
+    }
+}
+
+// The PDU, or FIELD where a field rule is broken.
+fn judge(s: &[u8], op: u8, limits: Limits) -> ReadAnswer
+    requires { ⌜ 48 ≤ length (now s) ⌝ }
+    ensures { λ r. ⌜ answerOf r ≡ judged limits op (now (s .entry)) (pduOf op (now (s .entry))) ⌝ }
+{
+    let p = pdu(s, op);
+    if shared_ok(s, op) & rule_ok(limits, p) {
+        ReadAnswer::Got(p)
+    } else {
+        ReadAnswer::Refused(Refusal::Field)
+    }
+}
+
+// The PDU that the input is, or the first refusal: LENGTH under 48 bytes, OPCODE, TOOLONG, LENGTH, FIELD.
+pub fn read(input: &[u8], limits: Limits) -> ReadAnswer
+    ensures { λ r. ⌜ answerOf r ≡ readPdu limits (now (input .entry)) ⌝ }
+{
+    if input.len() < HEADER_BYTES {
+        return ReadAnswer::Refused(Refusal::Length);
+    }
+    let op = input[0] % 64;
+    if !is_known(op) {
+        return ReadAnswer::Refused(Refusal::Opcode);
+    }
+    if (limits.data_segment as usize) < data_length(input) {
+        return ReadAnswer::Refused(Refusal::TooLong);
+    }
+    if input.len() != stated_length(input) {
+        return ReadAnswer::Refused(Refusal::Length);
+    }
+    judge(input, op, limits)
+}
+
+// The data segment of a PDU that was read from this input: a part of it, without pad.
+pub fn data_of(input: &[u8], p: Pdu) -> &[u8]
+    ensures { λ r. ⌜ now r ≡ dataOf (now (input .entry)) p ⌝ }
+{
+    let start = p.data_start;
+    let len = p.data_segment_length;
+    if input.len() < start {
+        return &input[..0];
+    }
+    if input.len() - start < len {
+        return &input[start..];
+    }
+    &input[start..start + len]
+}
