@@ -20,12 +20,14 @@ unsafe extern "C" {
 }
 
 /// 0 and the PDU's words, or a refusal's number.
+#[inline]
 pub fn read(input: &[u8], pdu: &mut PduWords) -> u32 {
     // SAFETY: pointer and length are those of one slice, and both references live through the call.
     unsafe { drawbevel_read(input.as_ptr(), input.len(), pdu) }
 }
 
 /// 0 and the header in the first 48 bytes of `out`, or a refusal's number.
+#[inline]
 pub fn write(out: &mut [u8], words: &ResponseWords, numbers: [u32; 3]) -> u32 {
     let [stat_sn, exp_cmd_sn, max_cmd_sn] = numbers;
     // SAFETY: as above; `out` is borrowed by nothing else.

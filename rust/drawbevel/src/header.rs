@@ -5,6 +5,7 @@ use crate::words::{pdu_of, refusal_of, words_of};
 use calls::{Numbers, Pdu, Refusal, Response};
 
 /// Read a whole PDU.
+#[inline]
 pub fn read(input: &[u8]) -> Result<Pdu, Refusal> {
     let mut words = [0; 17];
     match ffi::read(input, &mut words) {
@@ -14,6 +15,7 @@ pub fn read(input: &[u8]) -> Result<Pdu, Refusal> {
 }
 
 /// Write a response's header into the first 48 bytes of `out`.
+#[inline]
 pub fn write(out: &mut [u8], numbers: Numbers, response: &Response) -> Result<(), Refusal> {
     let Numbers {
         stat_sn,
