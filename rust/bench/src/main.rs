@@ -18,14 +18,15 @@ fn main() {
         table::Column::new("hand-optimised", cases::all::<Fast>()),
         table::Column::new("model", cases::all::<Model>()),
     ];
-    for round in 0..rounds {
-        eprintln!("round {} of {rounds}", round + 1);
+    for _ in 0..rounds {
         for column in &mut columns {
             column.measure();
         }
     }
     table::print(&columns);
     println!();
-    history::print::<Fast>("hand-optimised");
-    history::print::<Model>("model");
+    history::print(&[
+        ("hand-optimised", history::times::<Fast>()),
+        ("model", history::times::<Model>()),
+    ]);
 }

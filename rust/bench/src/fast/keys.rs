@@ -1,4 +1,4 @@
-//! The known keys, found by length and then by comparison of the whole name.
+//! The known keys, found by length and first letter, then by comparison of the whole name.
 
 /// A known key. The first twelve are the table's, in its order.
 #[derive(Clone, Copy, PartialEq, Eq)]
@@ -31,37 +31,49 @@ pub enum Key {
     Refused,
 }
 
+/// The key of a name: length and first letter leave at most two to compare with.
 pub fn key_of(name: &[u8]) -> Option<Key> {
-    Some(match name {
-        b"MaxConnections" => Key::MaxConnections,
-        b"MaxOutstandingR2T" => Key::MaxOutstandingR2T,
-        b"InitialR2T" => Key::InitialR2T,
-        b"DataPDUInOrder" => Key::DataPDUInOrder,
-        b"DataSequenceInOrder" => Key::DataSequenceInOrder,
-        b"ImmediateData" => Key::ImmediateData,
-        b"MaxRecvDataSegmentLength" => Key::MaxRecvDataSegmentLength,
-        b"MaxBurstLength" => Key::MaxBurstLength,
-        b"FirstBurstLength" => Key::FirstBurstLength,
-        b"DefaultTime2Wait" => Key::DefaultTime2Wait,
-        b"DefaultTime2Retain" => Key::DefaultTime2Retain,
-        b"ErrorRecoveryLevel" => Key::ErrorRecoveryLevel,
-        b"HeaderDigest" => Key::HeaderDigest,
-        b"DataDigest" => Key::DataDigest,
-        b"TaskReporting" => Key::TaskReporting,
-        b"AuthMethod" => Key::AuthMethod,
-        b"InitiatorName" => Key::InitiatorName,
-        b"TargetName" => Key::TargetName,
-        b"SessionType" => Key::SessionType,
-        b"InitiatorAlias" => Key::InitiatorAlias,
-        b"IFMarker" => Key::IFMarker,
-        b"OFMarker" => Key::OFMarker,
-        b"IFMarkInt" => Key::IFMarkInt,
-        b"OFMarkInt" => Key::OFMarkInt,
-        b"TargetAlias" | b"TargetAddress" | b"TargetPortalGroupTag" | b"SendTargets" => {
-            Key::Refused
-        }
+    let candidates: &[(&[u8], Key)] = match (name.len(), *name.first()?) {
+        (8, b'I') => &[(b"IFMarker", Key::IFMarker)],
+        (8, b'O') => &[(b"OFMarker", Key::OFMarker)],
+        (9, b'I') => &[(b"IFMarkInt", Key::IFMarkInt)],
+        (9, b'O') => &[(b"OFMarkInt", Key::OFMarkInt)],
+        (10, b'A') => &[(b"AuthMethod", Key::AuthMethod)],
+        (10, b'D') => &[(b"DataDigest", Key::DataDigest)],
+        (10, b'I') => &[(b"InitialR2T", Key::InitialR2T)],
+        (10, b'T') => &[(b"TargetName", Key::TargetName)],
+        (11, b'S') => &[
+            (b"SessionType", Key::SessionType),
+            (b"SendTargets", Key::Refused),
+        ],
+        (11, b'T') => &[(b"TargetAlias", Key::Refused)],
+        (12, b'H') => &[(b"HeaderDigest", Key::HeaderDigest)],
+        (13, b'I') => &[
+            (b"ImmediateData", Key::ImmediateData),
+            (b"InitiatorName", Key::InitiatorName),
+        ],
+        (13, b'T') => &[
+            (b"TaskReporting", Key::TaskReporting),
+            (b"TargetAddress", Key::Refused),
+        ],
+        (14, b'D') => &[(b"DataPDUInOrder", Key::DataPDUInOrder)],
+        (14, b'I') => &[(b"InitiatorAlias", Key::InitiatorAlias)],
+        (14, b'M') => &[
+            (b"MaxConnections", Key::MaxConnections),
+            (b"MaxBurstLength", Key::MaxBurstLength),
+        ],
+        (16, b'D') => &[(b"DefaultTime2Wait", Key::DefaultTime2Wait)],
+        (16, b'F') => &[(b"FirstBurstLength", Key::FirstBurstLength)],
+        (17, b'M') => &[(b"MaxOutstandingR2T", Key::MaxOutstandingR2T)],
+        (18, b'D') => &[(b"DefaultTime2Retain", Key::DefaultTime2Retain)],
+        (18, b'E') => &[(b"ErrorRecoveryLevel", Key::ErrorRecoveryLevel)],
+        (19, b'D') => &[(b"DataSequenceInOrder", Key::DataSequenceInOrder)],
+        (20, b'T') => &[(b"TargetPortalGroupTag", Key::Refused)],
+        (24, b'M') => &[(b"MaxRecvDataSegmentLength", Key::MaxRecvDataSegmentLength)],
         _ => return None,
-    })
+    };
+    let found = candidates.iter().find(|(known, _)| *known == name);
+    found.map(|(_, key)| *key)
 }
 
 /// How a number of the table is settled.

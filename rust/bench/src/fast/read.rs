@@ -52,39 +52,43 @@ fn frame(input: &[u8]) -> Result<(&Header, Data), Refusal> {
 pub fn read(input: &[u8]) -> Result<Pdu, Refusal> {
     let (h, data) = frame(input)?;
     let flags = h[1];
-    let itt = be32(h, 16);
-    let ttt = be32(h, 20);
     let immediate = h[0] & 0x40 != 0;
-    let plain = flags & 0x80 != 0 && h[4] == 0;
-    let (good, request) = match h[0] & 0x3f {
-        0x00 => (
-            plain && (itt != NO_TAG || immediate),
-            Request::NopOut(NopOut { ttt }),
-        ),
-        0x01 => (
-            flags & 7 <= 4 && flags & 0xa0 != 0,
-            Request::ScsiCommand(ScsiCommand {
+    let no_data = data.length == 0;
+    // Each kind is judged before its fields are loaded, and made in its place.
+    match h[0] & 0x3f {
+        0x00 if !(plain(h) && (be32(h, 16) != NO_TAG || immediate)) => Err(Refusal::Field),
+        0x00 => Ok(pdu(
+            h,
+            data,
+            be64(h, 8),
+            Request::NopOut(NopOut { ttt: be32(h, 20) }),
+        )),
+        0x01 if flags & 7 > 4 || flags & 0xa0 == 0 => Err(Refusal::Field),
+        0x01 => {
+            let command = ScsiCommand {
                 final_bit: flags & 0x80 != 0,
                 read: flags & 0x40 != 0,
                 write: flags & 0x20 != 0,
                 attribute: flags & 7,
-                expected_data_transfer_length: ttt,
+                expected_data_transfer_length: be32(h, 20),
                 cdb: [be64(h, 32), be64(h, 40)],
                 total_ahs_length: h[4],
-            }),
-        ),
-        0x02 => (
-            plain && data.length == 0 && (flags & 0x7f).wrapping_sub(1) < 8,
-            Request::TaskManagement(TaskManagement {
+            };
+            Ok(pdu(h, data, be64(h, 8), Request::ScsiCommand(command)))
+        }
+        0x02 if !(plain(h) && no_data && (flags & 0x7f).wrapping_sub(1) < 8) => Err(Refusal::Field),
+        0x02 => {
+            let task = TaskManagement {
                 function: flags & 0x7f,
-                referenced_task_tag: ttt,
+                referenced_task_tag: be32(h, 20),
                 ref_cmd_sn: be32(h, 32),
                 exp_data_sn: be32(h, 36),
-            }),
-        ),
-        0x03 => (
-            immediate && h[4] == 0,
-            Request::Login(Login {
+            };
+            Ok(pdu(h, data, be64(h, 8), Request::TaskManagement(task)))
+        }
+        0x03 if !immediate || h[4] != 0 => Err(Refusal::Field),
+        0x03 => {
+            let login = Login {
                 transit: flags & 0x80 != 0,
                 continues: flags & 0x40 != 0,
                 csg: flags >> 2 & 3,
@@ -94,35 +98,43 @@ pub fn read(input: &[u8]) -> Result<Pdu, Refusal> {
                 isid: be64(h, 8) >> 16,
                 tsih: be16(h, 14),
                 cid: be16(h, 20),
-            }),
-        ),
-        0x06 => (
-            plain && data.length == 0 && flags & 0x7f <= 2,
-            Request::Logout(Logout {
+            };
+            Ok(pdu(h, data, 0, Request::Login(login)))
+        }
+        0x06 if !(plain(h) && no_data && flags & 0x7f <= 2) => Err(Refusal::Field),
+        0x06 => {
+            let logout = Logout {
                 reason: flags & 0x7f,
                 cid: be16(h, 20),
-            }),
-        ),
-        _ => return snack(h, data, itt, ttt, plain),
-    };
-    if !good {
-        return Err(Refusal::Field);
+            };
+            Ok(pdu(h, data, 0, Request::Logout(logout)))
+        }
+        _ => snack(h, data),
     }
-    let no_lun = matches!(request, Request::Login(_) | Request::Logout(_));
-    Ok(Pdu {
-        immediate,
-        cmd_sn: be32(h, 24),
-        lun: if no_lun { 0 } else { be64(h, 8) },
-        itt,
-        exp_stat_sn: be32(h, 28),
-        request,
-        data,
-    })
+}
+
+/// Byte 1's highest bit is set and there is no AHS.
+#[inline]
+fn plain(h: &Header) -> bool {
+    h[1] & 0x80 != 0 && h[4] == 0
 }
 
 #[inline]
-fn snack(h: &Header, data: Data, itt: u32, ttt: u32, plain: bool) -> Result<Pdu, Refusal> {
-    let kind = h[1] & 0x0f;
+fn pdu(h: &Header, data: Data, lun: u64, request: Request) -> Pdu {
+    Pdu {
+        immediate: h[0] & 0x40 != 0,
+        cmd_sn: be32(h, 24),
+        lun,
+        itt: be32(h, 16),
+        exp_stat_sn: be32(h, 28),
+        request,
+        data,
+    }
+}
+
+#[inline]
+fn snack(h: &Header, data: Data) -> Result<Pdu, Refusal> {
+    let (kind, itt, ttt) = (h[1] & 0x0f, be32(h, 16), be32(h, 20));
     let good = match kind {
         0 => ttt == NO_TAG,
         1 => itt == NO_TAG && ttt == NO_TAG,
@@ -130,7 +142,7 @@ fn snack(h: &Header, data: Data, itt: u32, ttt: u32, plain: bool) -> Result<Pdu,
         3 => ttt != 0 && ttt != NO_TAG,
         _ => false,
     };
-    if !(plain && good) {
+    if !(plain(h) && good) {
         return Err(Refusal::Field);
     }
     Ok(Pdu {
