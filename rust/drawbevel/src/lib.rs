@@ -3,7 +3,9 @@
 
 mod ffi;
 mod header;
+mod session;
 mod words;
 
 pub use calls::*;
 pub use header::{read, write};
+pub use session::Session;
