@@ -1,0 +1,318 @@
+-- Each step of the code's ledger against the book's. The slot of the k-th held status is that of oldest + k modulo 32, and
+-- 32 in a row lie in different slots.
+use Prim.Native.Nat.{ℕ, zero, suc, _+_, _-_, _*_, _%_, _^_, _≤_, _<_}
+use mathlib.Core.Path.{_≡_, refl, sym, ap, _∙_, subst}
+use mathlib.Core.Bool.{true, false, _&&_}
+use mathlib.Core.List.{List, [], _∷_, _++_}
+use native.Mathlib.Nat.{zero-add}
+use native.Mathlib.Omega.{arith}
+use native.Mathlib.Decide.{ℕ-discrete, decLt}
+use lib.ListN.{length, getD, set, drop, length-append, length-drop, length-set}
+use lib.Dec.{eqb}
+use borrow.Author.Tests.{lt-ltb, le-ltb, le-leb, lt-leb, eq-eqb, ne-eqb}
+use Rattle.header.specs.Field.{bytesOf}
+use Rattle.header.specs.Refusal.{number}
+use Rattle.header.specs.Response.{maxData, refusalIn, headerBytes}
+use Rattle.header.specs.declared.refusal.Refusal.{Refusal}
+use Rattle.header.specs.declared.response.Response.{Response}
+use Rattle.header.proofs.Laws.{length-bytes, number-positive}
+use lib.Seq.{paste, sets, getD-set-same, getD-set-other, length-paste, set-append-left, length-sets, take-all}
+use Rattle.store.specs.Slot.{slotOf}
+use Rattle.store.proofs.Slots.{slot-same, slot-other}
+use Rattle.ledger.specs.declared.Ledger.{Ledger}
+use Rattle.ledger.specs.Book.{Status, LedgerBook, oldest, place, isStatus, isFull, refused, notStored, stored, sending, headerFor, sendBytes, sent, released, notHeld, run, runAt, runOf, renewed, Found, missing, found, lookup, statusOf}
+use Rattle.ledger.specs.declared.Sent.the-variants as S
+use Rattle.ledger.specs.Agree.{SlotHas, Agrees, Stored, Sends, ticket, nothing, Showing, showing}
+
+pub oldest-is : (b : LedgerBook) (o l h : ℕ) → l ≡ b .next → h ≡ length (b .held) → length (b .held) ≤ 32 → b .next < 2 ^ 32
+    → o < 2 ^ 32 → (o + h) % 2 ^ 32 ≡ l → o ≡ oldest b
+unfolding oldest
+oldest-is b o l h e1 e2 few fit lo e3 = omega arith
+
+away : (n o k : ℕ) → o < 2 ^ 32 → (k + o) % 2 ^ 32 ≡ n → k < 2 ^ 32 → k ≡ (n + (2 ^ 32 - o)) % 2 ^ 32
+away n o k lo e lk = omega arith
+
+pub place-is : (b : LedgerBook) (n o k l h : ℕ) → l ≡ b .next → h ≡ length (b .held) → length (b .held) ≤ 32 → b .next < 2 ^ 32
+    → o < 2 ^ 32 → (o + h) % 2 ^ 32 ≡ l → (k + o) % 2 ^ 32 ≡ n → k < 2 ^ 32 → k ≡ place b n
+unfolding place
+place-is b n o k l h e1 e2 few fit lo e3 e4 lk =
+    away n o k lo e4 lk ∙ ap (λ (x : ℕ). (n + (2 ^ 32 - x)) % 2 ^ 32) (oldest-is b o l h e1 e2 few fit lo e3)
+
+-- ---- what is found
+
+pub lookup-past : (l : List Status) (k : ℕ) → length l ≤ k → lookup l k ≡ missing
+unfolding lookup
+lookup-past [] k h = refl
+lookup-past (s ∷ l) zero h = absurd (omega arith)
+lookup-past (s ∷ l) (suc k) h = lookup-past l k (omega arith)
+
+pub lookup-end : (l : List Status) (s : Status) → lookup (l ++ s ∷ []) (length l) ≡ found s
+unfolding lookup
+lookup-end [] s = refl
+lookup-end (x ∷ l) s = lookup-end l s
+
+pub lookup-front : (l : List Status) (s : Status) (k : ℕ) → k < length l → lookup (l ++ s ∷ []) k ≡ lookup l k
+unfolding lookup
+lookup-front [] s k h = absurd (omega arith)
+lookup-front (x ∷ l) s zero h = refl
+lookup-front (x ∷ l) s (suc k) h = lookup-front l s k (omega arith)
+
+pub lookup-drop : (l : List Status) (p k : ℕ) → lookup (drop p l) k ≡ lookup l (p + k)
+unfolding lookup
+lookup-drop l zero k = rw zero-add
+lookup-drop [] (suc p) k = refl
+lookup-drop (x ∷ l) (suc p) k = let e : suc p + k ≡ suc (p + k) = omega arith in rw e (lookup-drop l p k)
+
+-- ---- numbers and slots
+
+pub oldest-sent : (b : LedgerBook) (s : Status) → b .next < 2 ^ 32 → length (b .held) < 32 → oldest (sent b s) ≡ oldest b
+unfolding oldest sent
+oldest-sent b s h l =
+    let e : length (b .held ++ s ∷ []) ≡ length (b .held) + 1 = length-append (b .held) (s ∷ []) in
+    rw e (omega arith)
+
+folds : (x p : ℕ) → (x + p) % 2 ^ 32 ≡ (x % 2 ^ 32 + p) % 2 ^ 32
+folds x p = omega arith
+
+pub oldest-released : (b : LedgerBook) (e : ℕ) → b .next < 2 ^ 32 → length (b .held) ≤ 32 → place b e ≤ length (b .held)
+    → oldest (released b e) ≡ (oldest b + place b e) % 2 ^ 32
+unfolding oldest released
+oldest-released b e h few l = rw length-drop (sums (b .next) (length (b .held)) (place b e) h few l)
+  where
+    sums : (n k p : ℕ) → n < 2 ^ 32 → k ≤ 32 → p ≤ k → (n + (2 ^ 32 - (k - p))) % 2 ^ 32 ≡ ((n + (2 ^ 32 - k)) % 2 ^ 32 + p) % 2 ^ 32
+    sums n k p a b c =
+        let e : n + (2 ^ 32 - (k - p)) ≡ n + (2 ^ 32 - k) + p = omega arith in
+        ap (λ (x : ℕ). x % 2 ^ 32) e ∙ folds (n + (2 ^ 32 - k)) p
+
+next-slot : (b : LedgerBook) → b .next < 2 ^ 32 → length (b .held) ≤ 32 → (oldest b + length (b .held)) % 32 ≡ b .next % 32
+unfolding oldest
+next-slot b h l = omega arith
+
+apart : (o k n : ℕ) → k < n → n < 32 → (o + k) % 32 ≡ (o + n) % 32 → ⊥
+apart o k n l m e = omega arith
+
+far-slot : (c k i j : ℕ) → (k ≡ c → ⊥) → i < 32 → j < 32 → k * 32 + j ≡ c * 32 + i → ⊥
+far-slot c k i j n h l e = omega arith
+
+slot-kept : (hs ts hd : List ℕ) (tk i j : ℕ) (f : Found) → length hs ≡ 6144 → length hd ≡ 48 → i < 128 → j < 128 → (j ≡ i → ⊥) → SlotHas hs ts j f
+    → SlotHas (paste hs (i * 48) hd 48) (set ts i tk) j f
+unfolding SlotHas
+slot-kept hs ts hd tk i j missing r h li lj n k = tt
+slot-kept hs ts hd tk i j (found s) r h li lj n k =
+    (slot-other hs hd i j (omega arith) (omega arith) h n ∙ k .0, getD-set-other ts i j tk 0 n ∙ k .1)
+
+-- ---- the steps
+
+pub stored-agrees : (c : ℕ) (l r : Ledger) (tk : ℕ) (hd hs ts : List ℕ) (b : LedgerBook) → Agrees c l hs ts b → l .held < 32 → length hd ≡ 48
+    → r .«is_open» ≡ l .«is_open» → r .next ≡ (l .next + 1) % 2 ^ 32 → r .held ≡ l .held + 1
+    → Agrees c r (paste hs ((c * 32 + l .next % 32) * 48) hd 48) (set ts (c * 32 + l .next % 32) tk) (sent b (record { header = hd; ticket = tk }))
+unfolding sent SlotHas
+stored-agrees c l r tk hd hs ts b g lh h e1 e2 e3 = record {
+  near = g .near;
+  is-open = e1 ∙ g .is-open;
+  next = (e2 ∙ ap (λ (x : ℕ). (x + 1) % 2 ^ 32) (g .next));
+  fits = omega arith;
+  held = (omega (arith, g .held, length-append (b .held) (st ∷ [])));
+  few = (omega (arith, g .held, length-append (b .held) (st ∷ [])));
+  headers-size = length-paste hs (i * 48) hd 48 (omega (arith, g .headers-size, g .near)) (omega arith) ∙ g .headers-size;
+  tickets-size = length-set ts i tk ∙ g .tickets-size;
+  kept = λ k. rw (oldest-sent b st (g .fits) (omega (arith, g .held))) (at k (decLt k (length (b .held))) (ℕ-discrete k (length (b .held))));
+}
+  where
+    st : Status
+    st = record { header = hd; ticket = tk }
+
+    i : ℕ
+    i = c * 32 + l .next % 32
+
+    here : (oldest b + length (b .held)) % 32 ≡ l .next % 32
+    here = next-slot b (g .fits) (g .few) ∙ ap (λ (x : ℕ). x % 32) (sym (g .next))
+
+    at : (k : ℕ) → Dec (k < length (b .held)) → Dec (k ≡ length (b .held)) → SlotHas (paste hs (i * 48) hd 48) (set ts i tk) (c * 32 + (oldest b + k) % 32) (lookup (sent b st .held) k)
+    at k (yes m) d =
+        let ne : c * 32 + (oldest b + k) % 32 ≡ i → ⊥ = λ q. apart (oldest b) k (length (b .held)) m (omega (arith, g .held)) (omega (arith, here)) in
+        (rw (lookup-front (b .held) st k m)
+        (slot-kept hs ts hd tk i (c * 32 + (oldest b + k) % 32) (lookup (b .held) k) (g .headers-size) h (omega (arith, g .near)) (omega (arith, g .near)) ne (g .kept k)))
+    at k (no m) (yes q) =
+        let s : c * 32 + (oldest b + length (b .held)) % 32 ≡ i = ap (λ (x : ℕ). c * 32 + x) here in
+        (rw (q, s, lookup-end (b .held) st)
+        ((slot-same hs hd i (omega (arith, g .headers-size, g .near)) h, getD-set-same ts i tk 0 (omega (arith, g .tickets-size, g .near)))))
+    at k (no m) (no q) =
+        (rw (lookup-past (b .held ++ st ∷ []) k (omega (arith, length-append (b .held) (st ∷ [])))) (tt))
+
+pub stored-others : (c k n tk : ℕ) (hd hs ts : List ℕ) (m : Ledger) (b : LedgerBook) → c < 4 → (k ≡ c → ⊥) → length hd ≡ 48 → Agrees k m hs ts b
+    → Agrees k m (paste hs ((c * 32 + n % 32) * 48) hd 48) (set ts (c * 32 + n % 32) tk) b
+stored-others c k n tk hd hs ts m b lc ne h g = record {
+  near = g .near;
+  is-open = g .is-open;
+  next = g .next;
+  fits = g .fits;
+  held = g .held;
+  few = g .few;
+  headers-size = length-paste hs ((c * 32 + n % 32) * 48) hd 48 (omega (arith, g .headers-size)) (omega arith) ∙ g .headers-size;
+  tickets-size = length-set ts (c * 32 + n % 32) tk ∙ g .tickets-size;
+  kept = λ j.
+      slot-kept hs ts hd tk (c * 32 + n % 32) (k * 32 + (oldest b + j) % 32) (lookup (b .held) j) (g .headers-size) h (omega arith) (omega (arith, g .near))
+      (far-slot c k (n % 32) ((oldest b + j) % 32) ne (omega arith) (omega arith))
+      (g .kept j);
+}
+
+pub release-agrees : (c : ℕ) (l r : Ledger) (hs ts : List ℕ) (b : LedgerBook) (e : ℕ) → Agrees c l hs ts b → place b e ≤ length (b .held)
+    → r .«is_open» ≡ l .«is_open» → r .next ≡ l .next → r .held ≡ l .held - place b e → Agrees c r hs ts (released b e)
+release-agrees c l r hs ts b e g le e1 e2 e3 = record {
+  near = g .near;
+  is-open = e1 ∙ g .is-open;
+  next = unfold released in (e2 ∙ g .next);
+  fits = unfold released in (g .fits);
+  held = unfold released in (rw length-drop (e3 ∙ ap (λ (x : ℕ). x - place b e) (g .held)));
+  few = unfold released in (rw length-drop (omega (arith, g .few)));
+  headers-size = g .headers-size;
+  tickets-size = g .tickets-size;
+  kept = λ k.
+      let s : (oldest (released b e) + k) % 32 ≡ (oldest b + (place b e + k)) % 32 =
+      ap (λ (x : ℕ). (x + k) % 32) (oldest-released b e (g .fits) (g .few) le) ∙ shift (oldest b) (place b e) k in
+      rw s (unfold released in (rw lookup-drop (g .kept (place b e + k))));
+}
+  where
+    shift : (o p k : ℕ) → ((o + p) % 2 ^ 32 + k) % 32 ≡ (o + (p + k)) % 32
+    shift o p k = omega arith
+
+-- ---- runs
+
+module _ (b : LedgerBook) (begin len k h : ℕ) (ek : k ≡ place b begin) (eh : h ≡ length (b .held)) (n : (eqb begin 0 && eqb len 0) ≡ false) where
+  pub run-far : h ≤ k → notHeld ≡ runOf b begin len
+  unfolding runOf runAt
+  run-far l = rw (n, ← ek, ← eh, le-ltb k h l)
+
+  pub run-rest : k < h → len ≡ 0 → run begin (h - k) ≡ runOf b begin len
+  unfolding runOf runAt
+  run-rest l z = rw (n, ← ek, ← eh, lt-ltb k h l, eq-eqb len 0 z)
+
+  pub run-part : k < h → (len ≡ 0 → ⊥) → len ≤ h - k → run begin len ≡ runOf b begin len
+  unfolding runOf runAt
+  run-part l z m = rw (n, ← ek, ← eh, lt-ltb k h l, ne-eqb len 0 z, le-leb len (h - k) m)
+
+  pub run-long : k < h → (len ≡ 0 → ⊥) → h - k < len → notHeld ≡ runOf b begin len
+  unfolding runOf runAt
+  run-long l z m = rw (n, ← ek, ← eh, lt-ltb k h l, ne-eqb len 0 z, lt-leb len (h - k) m)
+
+-- ---- a status shown again
+
+sets-front : (a x : List ℕ) (i : ℕ) (vs : List ℕ) → i + length vs ≤ length a → sets (a ++ x) i vs ≡ sets a i vs ++ x
+sets-front a x i [] l = refl
+sets-front a x i (v ∷ vs) l =
+    ap (λ (r : List ℕ). sets r (suc i) vs) (set-append-left a x i v (omega arith))
+    ∙ sets-front (set a i v) x (suc i) vs (rw length-set (omega arith))
+
+renew : (a x : List ℕ) (e m : ℕ) → length a ≡ 48 → sets (sets (a ++ x) 28 (bytesOf 4 e)) 32 (bytesOf 4 m) ≡ renewed a e m ++ x
+unfolding renewed
+renew a x e m l =
+    ap (λ (r : List ℕ). sets r 32 (bytesOf 4 m)) (sets-front a x 28 (bytesOf 4 e) (omega (arith, length-bytes 4 e)))
+    ∙ sets-front (sets a 28 (bytesOf 4 e)) x 32 (bytesOf 4 m) (omega (arith, length-bytes 4 m, length-sets a 28 (bytesOf 4 e)))
+
+pub resend-missing : (c : ℕ) (l : Ledger) (hs ts out : List ℕ) (b : LedgerBook) (n k e m : ℕ) → Agrees c l hs ts b → k ≡ place b n → l .held ≤ k
+    → _≡_ {A = Showing} (record { answer = nothing; bytes = out }) (showing (statusOf b n) e m out)
+unfolding statusOf showing
+resend-missing c l hs ts out b n k e m g ek h = rw (lookup-past (b .held) (place b n) (omega (arith, g .held)))
+
+lookup-in : (l : List Status) (k : ℕ) (A : Type 0) → k < length l → ((s : Status) → lookup l k ≡ found s → A) → A
+unfolding lookup
+lookup-in [] k A h f = absurd (omega arith)
+lookup-in (s ∷ l) zero A h f = f s refl
+lookup-in (s ∷ l) (suc k) A h f = lookup-in l k A (omega arith) f
+
+here : (o n k : ℕ) → o < 2 ^ 32 → n < 2 ^ 32 → k ≡ (n + (2 ^ 32 - o)) % 2 ^ 32 → (o + k) % 32 ≡ n % 32
+here o n k lo ln e = omega arith
+
+pub oldest-lt : (b : LedgerBook) → oldest b < 2 ^ 32
+unfolding oldest
+oldest-lt b = omega arith
+
+pub resend-found : (c : ℕ) (l : Ledger) (hs ts out : List ℕ) (b : LedgerBook) (n k e m : ℕ) → Agrees c l hs ts b → k ≡ place b n → n < 2 ^ 32 → k < l .held
+    → length (slotOf hs (c * 32 + n % 32)) ≡ 48
+    → _≡_ {A = Showing} (record {
+      answer = ticket (getD ts (c * 32 + n % 32) 0);
+      bytes = sets (sets (slotOf hs (c * 32 + n % 32) ++ drop 48 out) 28 (bytesOf 4 e)) 32 (bytesOf 4 m);
+    })
+    (showing (statusOf b n) e m out)
+unfolding statusOf showing place SlotHas
+resend-found c l hs ts out b n k e m g ek ln h sz =
+    lookup-in (b .held) k _ (omega (arith, g .held)) (λ s q.
+    let at : c * 32 + (oldest b + k) % 32 ≡ c * 32 + n % 32 = ap (λ (x : ℕ). c * 32 + x) (here (oldest b) n k (oldest-lt b) ln ek) in
+    let kept : SlotHas hs ts (c * 32 + n % 32) (found s) = rw (q, at) at (g .kept k) in
+    rw (← ek, q, renew (slotOf hs (c * 32 + n % 32)) (drop 48 out) e m sz, kept .0, kept .1))
+
+-- ---- send
+
+pub front : (o x : List ℕ) → length x ≡ 48 → paste o 0 x 48 ≡ x ++ drop 48 o
+front o x e = ap (λ (r : List ℕ). r ++ drop 48 o) (take-all 48 x (omega arith))
+
+pub same-header : (b : LedgerBook) (r : Response) (n e m : ℕ) → n ≡ b .next
+    → headerBytes r (record { «stat_sn» = n; «exp_cmd_sn» = e; «max_cmd_sn» = m }) ≡ headerFor b r e m
+unfolding headerFor
+same-header b r n e m q = rw q
+
+module _ (b : LedgerBook) (r : Response) where
+  pub sending-refused : (f : Refusal) → number f ≡ refusalIn maxData r → sending b r ≡ refused (number f)
+  unfolding sending
+  sending-refused f e = rw (← e, number-positive f)
+
+  module _ (fits : 0 ≡ refusalIn maxData r) where
+    pub sending-unstored : isStatus r ≡ false → sending b r ≡ notStored (b .next)
+    unfolding sending
+    sending-unstored s = rw (← fits, s)
+
+    pub sending-full : isStatus r ≡ true → 32 ≤ length (b .held) → sending b r ≡ refused 10
+    unfolding sending isFull
+    sending-full s l = rw (← fits, s, le-leb 32 (length (b .held)) l)
+
+    pub sending-stored : isStatus r ≡ true → length (b .held) < 32 → sending b r ≡ stored (b .next)
+    unfolding sending isFull
+    sending-stored s l = rw (← fits, s, lt-leb 32 (length (b .held)) l)
+
+module _ (c : ℕ) (l : Ledger) (ticket : ℕ) (r : Response) (e m : ℕ) (out hs ts : List ℕ) where
+  pub sends-refused : (f : Refusal) → ((b : LedgerBook) → Agrees c l hs ts b → sending b r ≡ refused (number f))
+      → Sends c l ticket r e m out hs ts (S.Refused f) out hs ts
+  unfolding sendBytes
+  sends-refused f q = record {
+    meets = λ b g. record { answer = sym (q b g); bytes = rw (q b g); agrees = tt };
+    others = λ k n b ne g. g;
+    headers-size = λ s. s;
+    tickets-size = λ s. s;
+    stays = (refl, refl, refl);
+  }
+
+  module _ (h : List ℕ) (is : h ≡ headerBytes r (record { «stat_sn» = l .next; «exp_cmd_sn» = e; «max_cmd_sn» = m })) where
+    right : (b : LedgerBook) → Agrees c l hs ts b → h ≡ headerFor b r e m
+    right b g = is ∙ same-header b r (l .next) e m (g .next)
+
+    pub sends-unstored : ((b : LedgerBook) → Agrees c l hs ts b → sending b r ≡ notStored (b .next))
+        → Sends c l ticket r e m out hs ts (S.NotStored (l .next)) (h ++ drop 48 out) hs ts
+    unfolding sendBytes
+    sends-unstored q = record {
+      meets = λ b g. record {
+        answer = ap notStored (g .next) ∙ sym (q b g);
+        bytes = rw (q b g) (ap (λ (x : List ℕ). x ++ drop 48 out) (right b g));
+        agrees = tt;
+      };
+      others = λ k n b ne g. g;
+      headers-size = λ s. s;
+      tickets-size = λ s. s;
+      stays = (refl, refl);
+    }
+
+    pub sends-stored : (l' : Ledger) (hs' ts' : List ℕ) → Stored c l ticket h hs ts l' hs' ts'
+        → ((b : LedgerBook) → Agrees c l hs ts b → sending b r ≡ stored (b .next))
+        → Sends c l ticket r e m out hs ts (S.Stored (l .next) l') (h ++ drop 48 out) hs' ts'
+    unfolding sendBytes
+    sends-stored l' hs' ts' k q = record {
+      meets = λ b g. record {
+        answer = ap stored (g .next) ∙ sym (q b g);
+        bytes = rw (q b g) (ap (λ (x : List ℕ). x ++ drop 48 out) (right b g));
+        agrees = subst (λ (x : List ℕ). Agrees c l' hs' ts' (sent b (record { header = x; ticket = ticket }))) (right b g) (k .agrees b g);
+      };
+      others = k .others;
+      headers-size = k .headers-size;
+      tickets-size = k .tickets-size;
+      stays = tt;
+    }

@@ -1,0 +1,2 @@
+-- Laws of a ledger.
+pub mod Laws

@@ -1,0 +1,32 @@
+-- `ledger::acknowledge` meets its contract: it is good where the ExpStatSN is no further from the oldest than the count held.
+use Prim.Native.Nat.{ℕ, _-_, _<_, _≤_}
+use mathlib.Core.Path.{_≡_, refl, ap}
+use native.Mathlib.Omega.{arith}
+use borrow.Author.Tests.{le-leb, lt-leb}
+use lib.ListN.{length}
+use Rattle.ledger.specs.Book.{place, isGood}
+use Rattle.ledger.specs.Agree.{AcknowledgesAt}
+use Rattle.ledger.proofs.Laws.{release-agrees}
+use borrow.Author.Needs.{needs}
+use Rattle.ledger.proofs.acknowledge.Statement.{statement}
+use Rattle.ledger.proofs.acknowledge.Tie as tie
+
+returns : tie.Need-returns
+unfolding AcknowledgesAt isGood
+returns c k hs ts b g =
+    let a = c .before .before .args in
+    let n = c .before .place-of .result in
+    let e : n ≡ place b (a .exp-stat-sn) = c .before .place-of .ensures k hs ts b g in
+    let le : place b (a .exp-stat-sn) ≤ length (b .held) = omega (arith, g .held, c .if1 .taken) in
+    (le-leb _ _ le, e, release-agrees k (a .l) _ hs ts b (a .exp-stat-sn) g le refl refl (ap (λ (x : ℕ). a .l .held - x) e))
+
+returns-2 : tie.Need-returns-2
+unfolding AcknowledgesAt isGood
+returns-2 c k hs ts b g =
+    let e = c .before .place-of .ensures k hs ts b g in
+    let lt : length (b .held) < place b (c .before .before .args .exp-stat-sn) = omega (arith, g .held, e, c .if1 .left) in
+    lt-leb _ _ lt
+
+pub acknowledge-spec : {M : Type 1} → statement M
+acknowledge-spec = tie.close (tie.spec
+    (λ c κs. search needs) returns returns-2)

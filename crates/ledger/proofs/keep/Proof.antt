@@ -1,0 +1,29 @@
+-- `ledger::keep` meets its contract: the slot of the next number is c's own, and no held status lies in it.
+use Prim.Native.Nat.{_+_, _*_, _%_, _<_}
+use mathlib.Core.Path.{_≡_, refl, _∙_}
+use native.Mathlib.Omega.{arith}
+use borrow.Author.Needs.{needs}
+use lib.ListN.{length, length-set}
+use lib.Seq.{length-paste}
+use Rattle.ledger.proofs.Laws.{stored-agrees, stored-others}
+use Rattle.ledger.proofs.keep.Statement.{statement}
+use Rattle.ledger.proofs.keep.Tie as tie
+
+returns : tie.Need-returns
+returns c =
+    let a = c .before .before .before .before .before .args in
+    let size : length (a .t4) ≡ 48 = search needs in
+    let near : a .c < 4 = omega arith in
+    let low : a .l .held < 32 = omega arith in
+    rw (c .before .before .put .ensures) (record {
+      agrees = λ b g. stored-agrees (a .c) (a .l) _ (a .ticket) (a .t4) (a .headers .now) (a .tickets .now) b g low size refl (c .before .wrapping-add-u32 .ensures) refl;
+      others = λ k m b ne g. stored-others (a .c) k (a .l .next) (a .ticket) (a .t4) (a .headers .now) (a .tickets .now) m b near ne size g;
+      headers-size = λ e. length-paste (a .headers .now) ((a .c * 32 + a .l .next % 32) * 48) (a .t4) 48 (omega arith) (omega arith) ∙ e;
+      tickets-size = λ e. length-set (a .tickets .now) (a .c * 32 + a .l .next % 32) (a .ticket) ∙ e;
+    })
+
+pub keep-spec : {M : Type 1} → statement M
+keep-spec =
+    tie.close (tie.spec
+    (λ c. search needs) (λ c. search needs) (λ c. search needs) (λ c. search needs) (λ c. search needs) (λ c κs. search needs)
+    (λ c. search needs) (λ c. search needs) (λ c κs. search needs) (λ c. search needs) returns)

@@ -1,0 +1,72 @@
+-- `ledger::send` meets its contract: one outcome of the book's for each way through the code.
+use Prim.Native.Nat.{ℕ, _<_, _≤_}
+use mathlib.Core.Path.{_≡_, sym, ap, _∙_, subst}
+use mathlib.Core.Bool.{Bool, true, false, not}
+use native.Mathlib.Omega.{arith}
+use borrow.Author.Needs.{needs}
+use lib.ListN.{length}
+use Rattle.ledger.specs.Book.{isStatus}
+use Rattle.ledger.proofs.Laws.{sending-refused, sending-unstored, sending-full, sending-stored, front, sends-refused, sends-unstored, sends-stored}
+use Rattle.header.specs.Response.{judgementNumber}
+use Rattle.header.specs.declared.response.Judgement.{Judgement}
+use Rattle.header.specs.declared.response.Judgement.the-variants as J
+use Rattle.header.specs.declared.refusal.Refusal.the-variants as F
+use Rattle.ledger.proofs.send.Statement.{statement}
+use Rattle.ledger.proofs.send.Tie as tie
+
+-- a response that is judged to fit
+fits : (n : ℕ) (j : Judgement) → judgementNumber j ≡ n → j ≡ J.Fits → 0 ≡ n
+fits n j e q = ap judgementNumber (sym q) ∙ e
+
+unset : (x s : Bool) → x ≡ s → not x ≡ true → s ≡ false
+unset true s e t = let z : _≡_ {A = ℕ} 0 1 = cc in absurd (omega arith)
+unset false s e t = sym e
+
+sure : (x s : Bool) → x ≡ s → not x ≡ false → s ≡ true
+sure true s e t = sym e
+sure false s e t = let z : _≡_ {A = ℕ} 0 1 = cc in absurd (omega arith)
+
+returns : tie.Need-returns
+returns c =
+    let a = c .before .before .before .before .before .before .before .before .before .before .before .before .args in
+    let made = c .before .before .before .before .before .before .before .header in
+    let size : length (made .result) ≡ 48 = search needs in
+    let ok = fits _ _ (c .before .before .before .before .before .before .before .before .before .before .judge .ensures) (c .before .before .before .before .before .before .before .before .enum-told .given .1) in
+    let no : isStatus (a .r) ≡ false = unset _ _ (c .before .before .before .before .before .before .is-status .ensures) (c .before .before .before .before .before .if1 .taken) in
+    rw (c .before .before .put .ensures ∙ front (a .out .now) (made .result) size)
+    (sends-unstored (a .c) (a .l) (a .ticket) (a .r) (a .exp-cmd-sn) (a .max-cmd-sn) (a .out .now) (a .headers .now) (a .tickets .now)
+    (made .result) (made .ensures) (λ b g. sending-unstored b (a .r) ok no))
+
+returns-2 : tie.Need-returns-2
+returns-2 c =
+    let a = c .before .before .before .before .before .before .before .before .before .args in
+    let ok = fits _ _ (c .before .before .before .before .before .before .before .judge .ensures) (c .before .before .before .before .before .enum-told .given .1) in
+    let yes = sure _ _ (c .before .before .before .is-status .ensures) (c .before .before .if1 .left) in
+    sends-refused (a .c) (a .l) (a .ticket) (a .r) (a .exp-cmd-sn) (a .max-cmd-sn) (a .out .now) (a .headers .now) (a .tickets .now)
+    F.Full (λ b g. sending-full b (a .r) ok yes (subst (λ (n : ℕ). 32 ≤ n) (g .held) (c .if2 .taken)))
+
+returns-3 : tie.Need-returns-3
+returns-3 c =
+    let a = c .before .before .before .before .before .args in
+    let no = rw (c .before .f .given .1) at (c .before .before .before .judge .ensures) in
+    sends-refused (a .c) (a .l) (a .ticket) (a .r) (a .exp-cmd-sn) (a .max-cmd-sn) (a .out .now) (a .headers .now) (a .tickets .now)
+    (c .before .f .given .0 .0) (λ b g. sending-refused b (a .r) (c .before .f .given .0 .0) no)
+
+returns-4 : tie.Need-returns-4
+returns-4 c =
+    let a = c .before .before .before .before .before .before .before .before .before .before .before .before .before .before .before .before .before .args in
+    let made = c .before .before .before .before .before .before .before .before .before .before .before .before .header in
+    let size : length (made .result) ≡ 48 = search needs in
+    let ok = fits _ _ (c .before .before .before .before .before .before .before .before .before .before .before .before .before .before .before .judge .ensures) (c .before .before .before .before .before .before .before .before .before .before .before .before .before .enum-told .given .1) in
+    let yes = sure _ _ (c .before .before .before .before .before .before .before .before .before .before .before .is-status .ensures) (c .before .before .before .before .before .before .before .before .before .before .if1 .left) in
+    rw (c .before .before .before .before .before .put2 .ensures ∙ front (a .out .now) (made .result) size)
+    (sends-stored (a .c) (a .l) (a .ticket) (a .r) (a .exp-cmd-sn) (a .max-cmd-sn) (a .out .now) (a .headers .now) (a .tickets .now)
+    (made .result) (made .ensures) _ _ _ (c .keep .ensures)
+    (λ b g. sending-stored b (a .r) ok yes (subst (λ (n : ℕ). n < 32) (g .held) (c .before .before .before .before .before .before .before .before .if2 .left))))
+
+pub send-spec : {M : Type 1} → statement M
+send-spec =
+    tie.close (tie.spec
+    (λ c κs. search needs) (λ c. search needs) (λ c. search needs) (λ c κs. search needs) (λ c κs. search needs) (λ c. search needs)
+    (λ c κs. search needs) (λ c. search needs) returns returns-2 (λ c. search needs) (λ c κs. search needs) (λ c κs. search needs)
+    returns-3 (λ c. search needs) returns-4)

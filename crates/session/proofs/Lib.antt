@@ -1,0 +1,7 @@
+-- Laws of the session.
+pub mod Steps
+pub mod PastWindow
+pub mod PastConns
+pub mod Sentences
+pub mod Tied
+pub mod Starred

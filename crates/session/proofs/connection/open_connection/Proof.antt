@@ -1,0 +1,46 @@
+-- `session::connection::open_connection` meets its contract: an empty ledger stands for the fresh one of the book.
+use Prim.Native.Nat.{_-_, _≤_}
+use mathlib.Core.Path.{refl}
+use mathlib.Core.List.{[]}
+use borrow.Author.Needs.{needs}
+use Rattle.session.specs.Agree.{ConnAgrees}
+use Rattle.session.proofs.Steps.{met, refusing, is-closed, open-at, conn-set, open-none, open-live, open-closed}
+use Rattle.session.proofs.connection.open_connection.Statement.{statement}
+use Rattle.session.proofs.connection.open_connection.Tie as tie
+
+with-ledger-requires : tie.Need-with-ledger-requires
+with-ledger-requires c κs =
+    let n = rw (c .before .enum-told3 .given .1) at (c .before .before .before .reach .ensures) in
+    n .0
+
+returns : tie.Need-returns
+returns c h t hs ts =
+    let a = c .before .before .before .args in
+    let far : 4 ≤ a .conn = rw (c .enum-told .given .1) at (c .before .before .reach .ensures) in
+    refusing _ _ 7 [] refl (λ b g. open-none b (a .conn) (a .stat-sn) far)
+
+returns-2 : tie.Need-returns-2
+returns-2 c h t hs ts =
+    let a = c .before .before .before .args in
+    let i = rw (c .enum-told2 .given .1) at (c .before .before .reach .ensures) in
+    refusing _ _ 9 [] refl (λ b g.
+    let v = open-at (a .s) h t hs ts b (a .conn) _ g i in
+    open-live b (a .conn) (a .stat-sn) (v .book) (v .near) (v .is))
+
+returns-3 : tie.Need-returns-3
+unfolding ConnAgrees
+returns-3 c h t hs ts =
+    let a = c .before .before .before .before .before .args in
+    let n = rw (c .before .before .enum-told3 .given .1) at (c .before .before .before .before .reach .ensures) in
+    rw (c .with-ledger .ensures) (record {
+      meets = λ b g.
+          met _ _ _ _ _ b _ (open-closed b (a .conn) (a .stat-sn) (n .0) (is-closed (a .s) h t hs ts b g (a .conn) (n .0) (n .1)))
+          (conn-set (a .s) h t hs ts hs ts b (a .conn) _ _ g (n .0) (c .before .opened .ensures .agrees (a .conn) hs ts (n .0) (g .statuses-size) (g .tickets-size)) (λ j x q n y. y) (g .statuses-size) (g .tickets-size));
+      stays = tt;
+    })
+
+pub open-connection-spec : {M : Type 1} → statement M
+open-connection-spec =
+    tie.close (tie.spec
+    (λ c κs. search needs) (λ c. search needs) (λ c. search needs) (λ c. search needs) (λ c κs. search needs)
+    with-ledger-requires returns returns-2 returns-3)

@@ -1,0 +1,100 @@
+-- `session::status::send` meets its contract: the ledger's three outcomes.
+use Prim.Native.Nat.{_-_, _≤_}
+use mathlib.Core.Path.{refl, _∙_}
+use borrow.Author.Needs.{needs}
+use Rattle.session.specs.Agree.{ConnAgrees}
+use Rattle.session.proofs.Steps.{met, refusing, lend-short, lend-long, reach-none, reach-closed, open-at, reach-open, send-eq, conn-set, send-refused, send-unstored, send-stored}
+use Rattle.session.proofs.status.send.Statement.{statement}
+use Rattle.session.proofs.status.send.Tie as tie
+
+returns : tie.Need-returns
+returns c h t =
+    let a = c .before .before .args in
+    refusing _ _ 1 (a .out .now) refl (λ b g. send-eq b (a .conn) (a .ticket) (a .r) (a .out .now) ∙ lend-short b (a .out .now) _ (c .if1 .taken))
+
+send-requires : tie.Need-send-requires
+send-requires c κs =
+    let i = rw (c .before .before .before .before .before .before .before .l .given .1) at (c .before .before .before .before .before .before .before .before .before .reach .ensures) in
+    (i .near, c .before .before .before .before .before .before .before .before .before .before .if1 .left)
+
+with-ledger-requires : tie.Need-with-ledger-requires
+with-ledger-requires c κs =
+    let i = rw (c .before .before .before .before .before .before .before .before .before .before .before .before .before .l .given .1) at (c .before .before .before .before .before .before .before .before .before .before .before .before .before .before .before .reach .ensures) in
+    i .near
+
+returns-2 : tie.Need-returns-2
+returns-2 c h t =
+    let a = c .before .before .before .before .before .args in
+    let far : 4 ≤ a .conn = rw (c .enum-told .given .1) at (c .before .before .reach .ensures) in
+    refusing _ _ 7 (a .out .now) refl (λ b g.
+    send-eq b (a .conn) (a .ticket) (a .r) (a .out .now) ∙ lend-long b (a .out .now) _ (c .before .before .before .if1 .left) ∙ reach-none b (a .conn) (a .out .now) _ far)
+
+returns-3 : tie.Need-returns-3
+returns-3 c h t =
+    let a = c .before .before .before .before .before .args in
+    let n = rw (c .enum-told2 .given .1) at (c .before .before .reach .ensures) in
+    refusing _ _ 8 (a .out .now) refl (λ b g.
+    send-eq b (a .conn) (a .ticket) (a .r) (a .out .now) ∙ lend-long b (a .out .now) _ (c .before .before .before .if1 .left)
+    ∙ reach-closed (a .s) h t (a .statuses .now) (a .status-tickets .now) b (a .conn) (a .out .now) _ g (n .0) (n .1))
+
+returns-4 : tie.Need-returns-4
+returns-4 c h t =
+    let a = c .before .before .before .before .before .before .before .before .before .before .before .before .before .before .before .before .before .before .args in
+    let i = rw (c .before .before .before .before .before .before .before .before .before .before .before .before .before .l .given .1) at (c .before .before .before .before .before .before .before .before .before .before .before .before .before .before .before .reach .ensures) in
+    let w = c .before .before .before .before .before .send .ensures in
+    let f = c .before .f .given in
+    let stays = rw (f .1) at (w .stays) in
+    rw (stays .0, stays .1, stays .2) (refusing _ _ _ (a .out .now) refl (λ b g.
+    let v = open-at (a .s) h t (a .statuses .now) (a .status-tickets .now) b (a .conn) _ g i in
+    send-eq b (a .conn) (a .ticket) (a .r) (a .out .now) ∙ lend-long b (a .out .now) _ (c .before .before .before .before .before .before .before .before .before .before .before .before .before .before .before .before .if1 .left)
+    ∙ reach-open b (a .conn) (a .out .now) _ (v .book) (v .near) (v .is)
+    ∙ send-refused b (a .conn) (a .ticket) (a .r) (a .out .now) (v .book) _ (rw (f .1) at (w .meets (v .book) (v .agrees) .answer))))
+
+returns-5 : tie.Need-returns-5
+returns-5 c h t =
+    let a = c .before .before .before .before .before .before .before .before .before .before .before .before .before .before .before .before .before .before .args in
+    let i = rw (c .before .before .before .before .before .before .before .before .before .before .before .before .before .l .given .1) at (c .before .before .before .before .before .before .before .before .before .before .before .before .before .before .before .reach .ensures) in
+    let w = c .before .before .before .before .before .send .ensures in
+    let f = c .before .n .given in
+    let stays = rw (f .1) at (w .stays) in
+    rw (stays .0, stays .1) (record {
+      meets = λ b g.
+          let v = open-at (a .s) h t (a .statuses .now) (a .status-tickets .now) b (a .conn) _ g i in
+          let m = w .meets (v .book) (v .agrees) in
+          met _ _ _ _ _ b b
+          (send-eq b (a .conn) (a .ticket) (a .r) (a .out .now) ∙ lend-long b (a .out .now) _ (c .before .before .before .before .before .before .before .before .before .before .before .before .before .before .before .before .if1 .left)
+          ∙ reach-open b (a .conn) (a .out .now) _ (v .book) (v .near) (v .is)
+          ∙ send-unstored b (a .conn) (a .ticket) (a .r) (a .out .now) (v .book) _ _ _
+          (c .before .before .before .before .before .before .before .before .before .before .exp-cmd-sn .ensures h t (b .window) (g .window)) (c .before .before .before .before .before .before .before .before .before .max-cmd-sn .ensures h t (b .window) (g .window))
+          (m .bytes) _ (rw (f .1) at (m .answer))) g;
+      stays = tt;
+    })
+
+returns-6 : tie.Need-returns-6
+unfolding ConnAgrees
+returns-6 c h t =
+    let a = c .before .before .before .before .before .before .before .before .before .before .before .before .before .before .before .before .before .before .before .args in
+    let i = rw (c .before .before .before .before .before .before .before .before .before .before .before .before .before .before .l .given .1) at (c .before .before .before .before .before .before .before .before .before .before .before .before .before .before .before .before .reach .ensures) in
+    let w = c .before .before .before .before .before .before .send .ensures in
+    let f = c .before .before .stat-sn .given in
+    rw (c .with-ledger .ensures) (record {
+      meets = λ b g.
+          let v = open-at (a .s) h t (a .statuses .now) (a .status-tickets .now) b (a .conn) _ g i in
+          let m = w .meets (v .book) (v .agrees) in
+          met _ _ _ _ _ b _
+          (send-eq b (a .conn) (a .ticket) (a .r) (a .out .now) ∙ lend-long b (a .out .now) _ (c .before .before .before .before .before .before .before .before .before .before .before .before .before .before .before .before .before .if1 .left)
+          ∙ reach-open b (a .conn) (a .out .now) _ (v .book) (v .near) (v .is)
+          ∙ send-stored b (a .conn) (a .ticket) (a .r) (a .out .now) (v .book) _ _ _
+          (c .before .before .before .before .before .before .before .before .before .before .before .exp-cmd-sn .ensures h t (b .window) (g .window)) (c .before .before .before .before .before .before .before .before .before .before .max-cmd-sn .ensures h t (b .window) (g .window))
+          (m .bytes) _ (rw (f .1) at (m .answer)))
+          (conn-set (a .s) h t (a .statuses .now) (a .status-tickets .now) _ _ b (a .conn) _ _ g (v .near) (rw (f .1) at (m .agrees))
+          (λ j y q n z. w .others j y q n z) (w .headers-size (g .statuses-size)) (w .tickets-size (g .tickets-size)));
+      stays = tt;
+    })
+
+pub send-spec : {M : Type 1} → statement M
+send-spec =
+    tie.close (tie.spec
+    returns (λ c κs. search needs) (λ c. search needs) (λ c. search needs) (λ c. search needs) (λ c κs. search needs) (λ c κs. search needs)
+    send-requires (λ c. search needs) (λ c. search needs) (λ c. search needs) with-ledger-requires returns-2 returns-3 (λ c. search needs)
+    returns-4 (λ c. search needs) returns-5 (λ c. search needs) returns-6)

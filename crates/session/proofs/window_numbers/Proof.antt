@@ -1,0 +1,24 @@
+-- `session::window_numbers` meets its contract: the window's two numbers.
+use Prim.Native.Nat.{ℕ, _-_}
+use mathlib.Core.Path.{refl, sym, ap₂}
+use mathlib.Core.List.{[]}
+use borrow.Author.Needs.{needs}
+use Rattle.session.specs.Book as B
+use Rattle.session.specs.Book.{bookStep, step}
+use Rattle.session.proofs.Steps.{met}
+use Rattle.session.proofs.window_numbers.Statement.{statement}
+use Rattle.session.proofs.window_numbers.Tie as tie
+
+returns : tie.Need-returns
+unfolding bookStep
+returns c h t hs ts =
+    let e = c .before .exp-cmd-sn in
+    let m = c .max-cmd-sn in
+    record {
+      meets = λ b g. met _ _ _ _ _ b b (ap₂ (λ (x y : ℕ). step (B.numbers x y) [] b) (sym (e .ensures h t (b .window) (g .window))) (sym (m .ensures h t (b .window) (g .window)))) g;
+      stays = refl;
+    }
+
+pub window-numbers-spec : {M : Type 1} → statement M
+window-numbers-spec = tie.close (tie.spec
+    (λ c κs. search needs) (λ c κs. search needs) returns)

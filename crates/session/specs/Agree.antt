@@ -1,0 +1,197 @@
+-- How the code's session, with the arrays lent to it, stands for the book; what each answer of the code says; and the
+-- contract that all calls share, `Did`.
+use Prim.Native.Nat.{ℕ, _*_, _<_, _≤_}
+use mathlib.Core.Path.{_≡_}
+use mathlib.Core.Bool.{true, false}
+use mathlib.Core.List.{List, []}
+use lib.ListN.{length, getD, set, replicate}
+use Rattle.header.specs.Refusal.{number}
+use Rattle.store.specs.Slot.{headerSize}
+use Rattle.window.specs.Agree as WA
+use Rattle.window.specs.Book as W
+use Rattle.ledger.specs.Agree as LA
+use Rattle.ledger.specs.declared.Ledger.{Ledger}
+use Rattle.session.specs.Book.{connections, Connection, closed, live, Book, freshBook, Call, offer, take, logout, opening, send, acknowledge, snack, resend, windowNumbers, Answer, refused, immediate, opened, window, sent, acknowledged, run, resent, numbers, bookStep, Offered, denied, atOnce, numbered, Asked, deniedRun, from}
+use Rattle.session.specs.declared.Session.{Session}
+use Rattle.session.specs.declared.FreshSession.{FreshSession}
+use Rattle.session.specs.declared.connection.Reached.{Reached}
+use Rattle.session.specs.declared.connection.Reached.the-variants as R
+use Rattle.session.specs.declared.connection.OpenAnswer.{OpenAnswer}
+use Rattle.session.specs.declared.connection.OpenAnswer.the-variants as OpenA
+use Rattle.session.specs.declared.connection.LogoutAnswer.{LogoutAnswer}
+use Rattle.session.specs.declared.connection.LogoutAnswer.the-variants as LogoutA
+use Rattle.session.specs.declared.command.Offered as Code
+use Rattle.session.specs.declared.command.Offered.the-variants as O
+use Rattle.session.specs.declared.command.OfferAnswer.{OfferAnswer}
+use Rattle.session.specs.declared.command.OfferAnswer.the-variants as OfferA
+use Rattle.session.specs.declared.command.TakeAnswer.{TakeAnswer}
+use Rattle.session.specs.declared.command.TakeAnswer.the-variants as TakeA
+use Rattle.session.specs.declared.status.SendAnswer.{SendAnswer}
+use Rattle.session.specs.declared.status.SendAnswer.the-variants as SendA
+use Rattle.session.specs.declared.status.AcknowledgeAnswer.{AcknowledgeAnswer}
+use Rattle.session.specs.declared.status.AcknowledgeAnswer.the-variants as AcknowledgeA
+use Rattle.session.specs.declared.status.Asked as CodeAsked
+use Rattle.session.specs.declared.status.Asked.the-variants as S
+use Rattle.session.specs.declared.status.SnackAnswer.{SnackAnswer}
+use Rattle.session.specs.declared.status.SnackAnswer.the-variants as SnackA
+use Rattle.session.specs.declared.status.ResendAnswer.{ResendAnswer}
+use Rattle.session.specs.declared.status.ResendAnswer.the-variants as ResendA
+
+-- ---- paper 01's number and values of each answer
+
+abbrev pub offerAnswer : OfferAnswer → Answer
+offerAnswer (OfferA.Refused f) = refused (number f)
+offerAnswer OfferA.Immediate = immediate
+offerAnswer (OfferA.Numbered a) = window (WA.offerAnswer a)
+
+abbrev pub takeAnswer : TakeAnswer → Answer
+takeAnswer (TakeA.Refused f) = refused (number f)
+takeAnswer (TakeA.Taken a) = window (WA.takeAnswer a)
+
+abbrev pub openAnswer : OpenAnswer → Answer
+openAnswer (OpenA.Refused f) = refused (number f)
+openAnswer OpenA.Opened = opened
+
+abbrev pub logoutAnswer : LogoutAnswer → Answer
+logoutAnswer (LogoutA.Refused f) = refused (number f)
+logoutAnswer (LogoutA.LoggedOut e v) = window (W.loggedOut e v)
+
+abbrev pub sendAnswer : SendAnswer → Answer
+sendAnswer (SendA.Refused f) = refused (number f)
+sendAnswer (SendA.Sent n) = sent n
+
+abbrev pub acknowledgeAnswer : AcknowledgeAnswer → Answer
+acknowledgeAnswer (AcknowledgeA.Refused f) = refused (number f)
+acknowledgeAnswer (AcknowledgeA.Acknowledged n) = acknowledged n
+
+abbrev pub snackAnswer : SnackAnswer → Answer
+snackAnswer (SnackA.Refused f) = refused (number f)
+snackAnswer (SnackA.Run f n) = run f n
+
+abbrev pub resendAnswer : ResendAnswer → Answer
+resendAnswer (ResendA.Refused f) = refused (number f)
+resendAnswer (ResendA.Resent t) = resent t
+
+-- of the inner functions: an offered PDU, and what a SNACK asks for
+abbrev pub offeredOf : Code.Offered → Offered
+offeredOf (O.Refused f) = denied (number f)
+offeredOf O.Immediate = atOnce
+offeredOf (O.Numbered n) = numbered n
+
+abbrev pub askedOf : CodeAsked.Asked → Asked
+askedOf (S.Refused f) = deniedRun (number f)
+askedOf (S.Run b n) = from b n
+
+-- ---- the state
+
+-- The struct and the arrays together: the window's headers and tickets, and the statuses' headers and tickets.
+pub record State : Type 0 where
+  pub session : Session
+  pub headers : List ℕ
+  pub tickets : List ℕ
+  pub statuses : List ℕ
+  pub status-tickets : List ℕ
+
+abbrev pub state : Session → List ℕ → List ℕ → List ℕ → List ℕ → State
+state s h t hs ts = record { session = s; headers = h; tickets = t; statuses = hs; status-tickets = ts }
+
+-- The ledger of connection c.
+abbrev pub noLedger : Ledger
+noLedger = record { «is_open» = false; next = 0; held = 0 }
+
+unfoldable pub ledgerOf : Session → ℕ → Ledger
+ledgerOf s c = getD (s .conns) c noLedger
+
+unfoldable pub ConnAgrees : ℕ → Ledger → List ℕ → List ℕ → Connection → Type 0
+ConnAgrees c l hs ts closed = l .«is_open» ≡ false
+ConnAgrees c l hs ts (live b) = LA.Agrees c l hs ts b
+
+pub record Agrees (s : State) (b : Book) : Type 0 where
+  pub level : s .session .level ≡ b .level
+  pub window : WA.Agrees (WA.state (s .session .window) (s .headers) (s .tickets)) (b .window)
+  pub conns-size : length (s .session .conns) ≡ connections
+  pub book-size : length (b .conns) ≡ connections
+  pub statuses-size : length (s .statuses) ≡ LA.slots * headerSize
+  pub tickets-size : length (s .status-tickets) ≡ LA.slots
+  pub conns : (c : ℕ) → c < connections → ConnAgrees c (ledgerOf (s .session) c) (s .statuses) (s .status-tickets) (getD (b .conns) c closed)
+
+-- A fresh session: it stands for the fresh book, and "keeps 64 headers of 48 bytes, all zero".
+pub record IsFresh (first statSN level : ℕ) (r : FreshSession) : Type 0 where
+  pub agrees : Agrees (state (r .session) (r .headers) (r .tickets) (r .statuses) (r .«status_tickets»)) (freshBook first statSN level)
+  pub zero-headers : r .headers ≡ replicate (W.places * headerSize) 0
+  pub zero-tickets : r .tickets ≡ replicate W.places 0
+  pub zero-statuses : r .statuses ≡ replicate (LA.slots * headerSize) 0
+  pub zero-status-tickets : r .«status_tickets» ≡ replicate LA.slots 0
+
+-- ---- what a call does
+
+-- The step of the code, from s to s' with the answer a and the output o, is the book's.
+pub record MeetsAt (call : Call) (s : State) (a : Answer) (o : List ℕ) (s' : State) (b : Book) : Type 0 where
+  pub answer : a ≡ bookStep b call .answer
+  pub bytes : o ≡ bookStep b call .bytes
+  pub agrees : Agrees s' (bookStep b call .book)
+
+abbrev pub Meets : Call → State → Answer → List ℕ → State → Type 0
+Meets call s a o s' = (b : Book) → Agrees s b → MeetsAt call s a o s' b
+
+-- The output that a call lends.
+abbrev pub lent : Call → List ℕ
+lent (offer c t p) = []
+lent (take o) = o
+lent (logout c r) = []
+lent (opening c n) = []
+lent (send c t r o) = o
+lent (acknowledge c e) = []
+lent (snack c p) = []
+lent (resend c n o) = o
+lent windowNumbers = []
+
+-- What an answer leaves as it was, of whatever state, also of one that stands for no book: a refusal leaves all, an answer
+-- that only shows something leaves the state, a void hand-out leaves the output.
+abbrev pub WindowStays : W.Answer → State → State → List ℕ → List ℕ → Type 0
+WindowStays W.kept s s' l o = Unit {0}
+WindowStays W.duplicate s s' l o = s' ≡ s
+WindowStays W.passed s s' l o = s' ≡ s
+WindowStays W.beyond s s' l o = s' ≡ s
+WindowStays W.nothing s s' l o = (s' ≡ s) × (o ≡ l)
+WindowStays (W.command n t w) s s' l o = Unit {0}
+WindowStays (W.void n) s s' l o = o ≡ l
+WindowStays (W.loggedOut e v) s s' l o = Unit {0}
+
+abbrev pub Stays : Answer → State → State → List ℕ → List ℕ → Type 0
+Stays (refused n) s s' l o = (s' ≡ s) × (o ≡ l)
+Stays immediate s s' l o = s' ≡ s
+Stays opened s s' l o = Unit {0}
+Stays (window a) s s' l o = WindowStays a s s' l o
+Stays (sent n) s s' l o = Unit {0}
+Stays (acknowledged n) s s' l o = Unit {0}
+Stays (run f n) s s' l o = s' ≡ s
+Stays (resent t) s s' l o = s' ≡ s
+Stays (numbers e m) s s' l o = s' ≡ s
+
+-- The contract of every call.
+pub record Did (call : Call) (s : State) (a : Answer) (o : List ℕ) (s' : State) : Type 0 where
+  pub meets : Meets call s a o s'
+  pub stays : Stays a s s' (lent call) o
+
+-- ---- the inner functions
+
+pub record IsOpen (s : Session) (c : ℕ) (l : Ledger) : Type 0 where
+  pub near : c < connections
+  pub ledger : l ≡ ledgerOf s c
+  pub is-open : l .«is_open» ≡ true
+
+abbrev pub Reaches : Session → ℕ → Reached → Type 0
+Reaches s c R.NoConn = connections ≤ c
+Reaches s c R.Closed = (c < connections) × (ledgerOf s c .«is_open» ≡ false)
+Reaches s c (R.Open l) = IsOpen s c l
+
+unfoldable pub withLedger : Session → ℕ → Ledger → Session
+withLedger s c l = record { level = s .level; window = s .window; conns = set (s .conns) c l }
+
+-- The connections that a logout leaves: none open after reason 0, else all but c as they were.
+pub record LeavesConns (k : List Ledger) (c r : ℕ) (k' : List Ledger) : Type 0 where
+  pub size : length k ≡ connections → length k' ≡ connections
+  pub every : r ≡ 0 → (j : ℕ) → j < connections → getD k' j noLedger .«is_open» ≡ false
+  pub own : getD k' c noLedger .«is_open» ≡ false
+  pub others : (r ≡ 0 → ⊥) → (j : ℕ) → (j ≡ c → ⊥) → getD k' j noLedger ≡ getD k j noLedger

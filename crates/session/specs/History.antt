@@ -1,0 +1,50 @@
+-- A history: a list of calls, each on the state that the last left, with its answers; and what the book answers to it.
+use Prim.Native.Nat.{ℕ}
+use mathlib.Core.Path.{_≡_, refl, ap₂}
+use mathlib.Core.List.{List, [], _∷_}
+use Rattle.session.specs.Book.{Book, Call, Answer, bookStep}
+use Rattle.session.specs.Agree.{State, Agrees, Did}
+
+-- A call with "its whole result and the header it writes": the answer, and the lent output after it.
+pub record Event : Type 0 where
+  pub call : Call
+  pub answer : Answer
+  pub bytes : List ℕ
+
+abbrev pub event : Call → Answer → List ℕ → Event
+event c a o = record { call = c; answer = a; bytes = o }
+
+unfoldable pub callsOf : List Event → List Call
+callsOf [] = []
+callsOf (e ∷ es) = e .call ∷ callsOf es
+
+-- What the book answers to a call, and to a list of calls; and the book after them.
+unfoldable pub booked : Book → Call → Event
+booked b c = event c (bookStep b c .answer) (bookStep b c .bytes)
+
+unfoldable pub bookRun : Book → List Call → List Event
+bookRun b [] = []
+bookRun b (c ∷ cs) = booked b c ∷ bookRun (bookStep b c .book) cs
+
+unfoldable pub bookAfter : Book → List Call → Book
+bookAfter b [] = b
+bookAfter b (c ∷ cs) = bookAfter (bookStep b c .book) cs
+
+-- Calls one after the other from a state to a state, each as its contract says; the events stand in the order of the calls.
+pub data Ran : State → List Event → State → Type 0 where
+  done : {s : State} → Ran s [] s
+  next : {s s' s'' : State} {c : Call} {a : Answer} {o : List ℕ} {es : List Event} → Did c s a o s' → Ran s' es s'' → Ran s (event c a o ∷ es) s''
+
+-- The events of a history are the book's, and the state after it stands for the book after it.
+pub record Booked (b : Book) (es : List Event) (s : State) : Type 0 where
+  pub events : es ≡ bookRun b (callsOf es)
+  pub agrees : Agrees s (bookAfter b (callsOf es))
+
+-- "every answer is that of document 01's book"
+pub history : {s s' : State} {es : List Event} → Ran s es s' → (b : Book) → Agrees s b → Booked b es s'
+unfolding bookRun bookAfter callsOf booked
+history done b g = record { events = refl; agrees = g }
+history (next {c = c} d r) b g =
+    let m = d .meets b g in
+    let rest = history r (bookStep b c .book) (m .agrees) in
+    record { events = ap₂ _∷_ (ap₂ (event c) (m .answer) (m .bytes)) (rest .events); agrees = rest .agrees }

@@ -1,0 +1,235 @@
+// Statuses: sent on a connection, acknowledged by the initiator, asked for by a SNACK and resent.
+use crate::Session;
+use crate::connection::Reached;
+use crate::connection::reach;
+use crate::connection::with_ledger;
+use header::refusal::Refusal;
+use header::request::LIMITS;
+use header::request::ReadAnswer;
+use header::request::Request;
+use header::response::Response;
+use ledger::Acknowledged;
+use ledger::LEDGER_BYTES;
+use ledger::LEDGER_SLOTS;
+use ledger::Resent;
+use ledger::Run;
+use ledger::Sent;
+use store::HEADER_BYTES;
+ghost use mathlib.Core.Path.{_≡_};
+ghost use mathlib.Core.List.{List, []};
+ghost use Prim.Native.Nat.{ℕ};
+ghost use Rattle.header.specs.Request.{limits, readPdu};
+ghost use Rattle.session.specs.Book.{Call, askedBy, asked};
+ghost use Rattle.session.specs.Agree.{Did, state, askedOf, sendAnswer, acknowledgeAnswer, snackAnswer, resendAnswer};
+
+pub enum SendAnswer {
+    Refused(Refusal),
+    Sent(u32),
+}
+
+pub struct SendStep {
+    pub answer: SendAnswer,
+    pub session: Session,
+}
+
+pub enum AcknowledgeAnswer {
+    Refused(Refusal),
+    Acknowledged(u32),
+}
+
+pub struct AcknowledgeStep {
+    pub answer: AcknowledgeAnswer,
+    pub session: Session,
+}
+
+// What a SNACK call asks for.
+pub enum Asked {
+    Refused(Refusal),
+    Run { beg_run: u32, run_length: u32 },
+}
+
+pub enum SnackAnswer {
+    Refused(Refusal),
+    Run { first: u32, count: u32 },
+}
+
+pub enum ResendAnswer {
+    Refused(Refusal),
+    Resent(u32),
+}
+
+// Sends a response with its ticket on a connection: its header, with the next StatSN and both window numbers, into the
+// first 48 bytes of out. BUFFER, NOCONN, CLOSED, writing's refusals, FULL.
+pub fn send(
+    s: Session,
+    conn: u32,
+    ticket: u32,
+    r: Response,
+    out: &mut [u8],
+    statuses: &mut [u8; LEDGER_BYTES],
+    status_tickets: &mut [u32; LEDGER_SLOTS],
+) -> SendStep
+    ensures { λ x. ⌜ ((h t : List ℕ) → Did (Call.send conn ticket r (now (out .entry))) (state s h t (now (statuses .entry)) (now («status_tickets» .entry))) (sendAnswer (x .answer)) (now (out .exit)) (state (x .session) h t (now (statuses .exit)) (now («status_tickets» .exit)))) ⌝ }
+{
+    if out.len() < HEADER_BYTES {
+        return SendStep {
+            answer: SendAnswer::Refused(Refusal::Buffer),
+            session: s,
+        };
+    }
+    match reach(s, conn) {
+        Reached::NoConn => SendStep {
+            answer: SendAnswer::Refused(Refusal::NoConn),
+            session: s,
+        },
+        Reached::Closed => SendStep {
+            answer: SendAnswer::Refused(Refusal::Closed),
+            session: s,
+        },
+        Reached::Open(l) => {
+            let w = s.window;
+            let e = window::exp_cmd_sn(w);
+            let m = window::max_cmd_sn(w);
+            let c = conn as usize;
+            match ledger::send(l, c, ticket, r, e, m, out, statuses, status_tickets) {
+                Sent::Refused(f) => SendStep {
+                    answer: SendAnswer::Refused(f),
+                    session: s,
+                },
+                Sent::NotStored(n) => SendStep {
+                    answer: SendAnswer::Sent(n),
+                    session: s,
+                },
+                Sent::Stored { stat_sn, ledger } => {
+                    let after = with_ledger(s, conn, ledger);
+                    SendStep {
+                        answer: SendAnswer::Sent(stat_sn),
+                        session: after,
+                    }
+                }
+            }
+        }
+    }
+}
+
+// Acknowledges the statuses of a connection before an ExpStatSN, with their count. NOCONN, CLOSED, STALE.
+pub fn acknowledge(s: Session, conn: u32, exp_stat_sn: u32) -> AcknowledgeStep
+    ensures { λ r. ⌜ ((h t hs ts : List ℕ) → Did (Call.acknowledge conn «exp_stat_sn») (state s h t hs ts) (acknowledgeAnswer (r .answer)) [] (state (r .session) h t hs ts)) ⌝ }
+{
+    match reach(s, conn) {
+        Reached::NoConn => AcknowledgeStep {
+            answer: AcknowledgeAnswer::Refused(Refusal::NoConn),
+            session: s,
+        },
+        Reached::Closed => AcknowledgeStep {
+            answer: AcknowledgeAnswer::Refused(Refusal::Closed),
+            session: s,
+        },
+        Reached::Open(l) => match ledger::acknowledge(l, exp_stat_sn) {
+            Acknowledged::Stale => AcknowledgeStep {
+                answer: AcknowledgeAnswer::Refused(Refusal::Stale),
+                session: s,
+            },
+            Acknowledged::Good { count, ledger } => {
+                let after = with_ledger(s, conn, ledger);
+                AcknowledgeStep {
+                    answer: AcknowledgeAnswer::Acknowledged(count),
+                    session: after,
+                }
+            }
+        },
+    }
+}
+
+// What a request asks for as a status SNACK: FIELD for another kind, SNACK for another type or at level 0.
+fn asked_by(level: u8, r: Request) -> Asked
+    ensures { λ x. ⌜ askedOf x ≡ askedBy level r ⌝ }
+{
+    match r {
+        Request::NopOut(_) => Asked::Refused(Refusal::Field),
+        Request::ScsiCommand(_) => Asked::Refused(Refusal::Field),
+        Request::TaskManagement(_) => Asked::Refused(Refusal::Field),
+        Request::Login(_) => Asked::Refused(Refusal::Field),
+        Request::Logout(_) => Asked::Refused(Refusal::Field),
+        Request::Snack(x) => {
+            if (x.snack_type == 1) & (level != 0) {
+                Asked::Run {
+                    beg_run: x.beg_run,
+                    run_length: x.run_length,
+                }
+            } else {
+                Asked::Refused(Refusal::Snack)
+            }
+        }
+    }
+}
+
+// Reads the PDU of a SNACK call.
+fn read_snack(level: u8, pdu: &[u8]) -> Asked
+    ensures { λ r. ⌜ askedOf r ≡ asked level (readPdu limits (now (pdu .entry))) ⌝ }
+{
+    match header::read::read(pdu, LIMITS) {
+        ReadAnswer::Refused(f) => Asked::Refused(f),
+        ReadAnswer::Got(p) => {
+            let r = p.request;
+            asked_by(level, r)
+        }
+    }
+}
+
+// The run that a SNACK PDU on a connection asks for. NOCONN, CLOSED, reading's refusals, FIELD for another kind, SNACK.
+pub fn snack(s: Session, conn: u32, pdu: &[u8]) -> SnackAnswer
+    ensures { λ r. ⌜ ((h t hs ts : List ℕ) → Did (Call.snack conn (now (pdu .entry))) (state s h t hs ts) (snackAnswer r) [] (state s h t hs ts)) ⌝ }
+{
+    match reach(s, conn) {
+        Reached::NoConn => SnackAnswer::Refused(Refusal::NoConn),
+        Reached::Closed => SnackAnswer::Refused(Refusal::Closed),
+        Reached::Open(l) => match read_snack(s.level, pdu) {
+            Asked::Refused(f) => SnackAnswer::Refused(f),
+            Asked::Run {
+                beg_run,
+                run_length,
+            } => match ledger::run_of(l, beg_run, run_length) {
+                Run::NotHeld => SnackAnswer::Refused(Refusal::Snack),
+                Run::Of { first, count } => SnackAnswer::Run {
+                    first: first,
+                    count: count,
+                },
+            },
+        },
+    }
+}
+
+// Resends a held status of a connection, with its ticket: its header, with the window numbers of now, into the first 48
+// bytes of out. BUFFER, NOCONN, CLOSED, SNACK at level 0 or where the number is not held.
+pub fn resend(
+    s: Session,
+    conn: u32,
+    stat_sn: u32,
+    statuses: &[u8; LEDGER_BYTES],
+    status_tickets: &[u32; LEDGER_SLOTS],
+    out: &mut [u8],
+) -> ResendAnswer
+    ensures { λ x. ⌜ ((h t : List ℕ) → Did (Call.resend conn «stat_sn» (now (out .entry))) (state s h t (now (statuses .entry)) (now («status_tickets» .entry))) (resendAnswer x) (now (out .exit)) (state s h t (now (statuses .entry)) (now («status_tickets» .entry)))) ⌝ }
+{
+    if out.len() < HEADER_BYTES {
+        return ResendAnswer::Refused(Refusal::Buffer);
+    }
+    match reach(s, conn) {
+        Reached::NoConn => ResendAnswer::Refused(Refusal::NoConn),
+        Reached::Closed => ResendAnswer::Refused(Refusal::Closed),
+        Reached::Open(l) => {
+            if s.level == 0 {
+                return ResendAnswer::Refused(Refusal::Snack);
+            }
+            let w = s.window;
+            let e = window::exp_cmd_sn(w);
+            let m = window::max_cmd_sn(w);
+            let c = conn as usize;
+            match ledger::resend(l, c, stat_sn, e, m, statuses, status_tickets, out) {
+                Resent::NotHeld => ResendAnswer::Refused(Refusal::Snack),
+                Resent::Status(t) => ResendAnswer::Resent(t),
+            }
+        }
+    }
+}

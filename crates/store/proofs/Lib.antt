@@ -1,0 +1,2 @@
+-- Laws of the slots.
+pub mod Slots

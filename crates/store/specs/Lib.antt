@@ -1,0 +1,2 @@
+-- Definitions of the slots that headers are kept in.
+pub mod Slot

@@ -1,0 +1,14 @@
+-- `window::max_cmd_sn` meets its contract.
+use Prim.Native.Nat.{ℕ, _+_, _%_, _^_}
+use mathlib.Core.Path.{_∙_, ap}
+use borrow.Author.Needs.{needs}
+use Rattle.window.specs.Book.{maxCmdSN}
+use Rattle.window.proofs.max_cmd_sn.Statement.{statement}
+use Rattle.window.proofs.max_cmd_sn.Tie as tie
+
+returns : tie.Need-returns
+unfolding maxCmdSN
+returns c h t b g = c .wrapping-add-u32 .ensures ∙ ap (λ (x : ℕ). (x + 63) % 2 ^ 32) (g .next)
+
+pub max-cmd-sn-spec : {M : Type 1} → statement M
+max-cmd-sn-spec = tie.close (tie.spec (λ c. search needs) (λ c κs. search needs) returns)

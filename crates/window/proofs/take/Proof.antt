@@ -1,0 +1,44 @@
+-- `window::take` meets its contract: the first bits of the maps say which of the three answers it is.
+use Prim.Native.Nat.{_%_}
+use mathlib.Core.Path.{_≡_, refl}
+use mathlib.Core.List.{_++_}
+use lib.ListN.{drop}
+use Rattle.store.specs.Slot.{slotOf}
+use Rattle.window.specs.Book.{take, nothing, handedOn}
+use Rattle.window.proofs.Steps.{met, take-nothing, take-void, take-command}
+use borrow.Author.Needs.{needs}
+use Rattle.window.proofs.take.Statement.{statement}
+use Rattle.window.proofs.take.Tie as tie
+
+returns : tie.Need-returns
+returns c =
+    let a = c .before .before .before .args in
+    record { meets = λ b g. met _ _ nothing _ _ b b (take-nothing (a .w) (a .headers .now) (a .tickets .now) b (a .out .now) g (c .if1 .taken)) g; stays = (refl, refl) }
+
+returns-2 : tie.Need-returns-2
+returns-2 c =
+    let a = c .before .before .before .before .before .before .args in
+    record {
+      meets = λ b g. met _ _ _ _ _ b (handedOn b) (take-void (a .w) (a .headers .now) (a .tickets .now) b (a .out .now) g (c .if2 .taken)) (c .before .before .handed-on .ensures _ _ b g);
+      stays = refl;
+    }
+
+returns-3 : tie.Need-returns-3
+returns-3 c =
+    let a = c .before .before .before .before .before .before .before .before .before .before .before .before .before .args in
+    let h = a .headers .now in
+    let t = a .tickets .now in
+    let e : c .before .before .get .last .1 .1 .0 ≡ slotOf h (a .w .next % 64) ++ drop 48 (a .out .now) = unfold slotOf in c .before .before .get .ensures in
+    record {
+      meets = λ b g.
+          rw e (met _ _ _ _ _ b (handedOn b)
+          (take-command (a .w) h t b _ (a .out .now) g (c .before .before .before .before .before .before .before .before .before .before .if1 .left) (c .before .before .before .before .before .before .before .if2 .left) (c .before .before .before .before .before .before .first-origin .ensures h t b g))
+          (c .before .before .before .before .before .before .before .before .before .handed-on .ensures h t b g));
+      stays = tt;
+    }
+
+pub take-spec : {M : Type 1} → statement M
+take-spec =
+    tie.close (tie.spec
+    returns (λ c κs. search needs) returns-2 (λ c. search needs) (λ c κs. search needs) (λ c. search needs)
+    (λ c. search needs) (λ c. search needs) (λ c κs. search needs) (λ c. search needs) returns-3)
