@@ -15,6 +15,11 @@ fn main() {
         Some(archive) => PathBuf::from(archive).parent().expect("a file").to_owned(),
         None => made(&root),
     };
+    // The tests compile C programs against the same archive.
+    println!(
+        "cargo::rustc-env=DRAWBEVEL_ARCHIVE={}",
+        folder.join(ARCHIVE).display()
+    );
     println!("cargo::rustc-link-search=native={}", folder.display());
     println!("cargo::rustc-link-lib=static=capi");
 }

@@ -7,6 +7,7 @@ mod table;
 mod timing;
 
 use bench::Fast;
+use drawbevel::Drawbevel;
 use model::Model;
 
 fn main() {
@@ -16,6 +17,7 @@ fn main() {
     );
     let mut columns = vec![
         table::Column::new("hand-optimised", cases::all::<Fast>()),
+        table::Column::new("Drawbevel", cases::all::<Drawbevel>()),
         table::Column::new("model", cases::all::<Model>()),
     ];
     for _ in 0..rounds {
@@ -27,6 +29,7 @@ fn main() {
     println!();
     history::print(&[
         ("hand-optimised", history::times::<Fast>()),
+        ("Drawbevel", history::times::<Drawbevel>()),
         ("model", history::times::<Model>()),
     ]);
 }

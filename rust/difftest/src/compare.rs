@@ -3,7 +3,7 @@
 use crate::coverage::Coverage;
 use crate::generate::{Area, Generator};
 use calls::Engine;
-use replay::{Played, Player, answer_line, call_line};
+use script::{Played, Player, answer_line, call_line};
 use std::fmt;
 use testkit::Rng;
 

@@ -7,7 +7,7 @@ mod session;
 pub use required::required;
 
 use calls::{Offer, Request};
-use replay::{Answer, Call, Played};
+use script::{Answer, Call, Played};
 use std::collections::BTreeMap;
 
 /// How often something must have been seen.

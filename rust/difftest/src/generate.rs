@@ -7,7 +7,7 @@ mod responses;
 mod sessions;
 mod text;
 
-use replay::{Answer, Call};
+use script::{Answer, Call};
 use testkit::Rng;
 
 /// What a stretch of calls is about.

@@ -43,7 +43,7 @@ fn a_difference_is_shown_as_a_script() {
     let difference = run(Model::default(), broken(fault), SEED, CALLS, &Area::ALL).unwrap_err();
     let play = |engine: Broken<Model>| {
         let mut answers = Vec::new();
-        replay::play(engine, &difference.script[..], &mut answers).unwrap();
+        script::play(engine, &difference.script[..], &mut answers).unwrap();
         answers
     };
     assert_ne!(play(broken(Fault::None)), play(broken(fault)));

@@ -2,6 +2,10 @@
 //! step with `include/drawbevel.h`.
 #![allow(unsafe_code)]
 
+mod c;
+
+use c::*;
+
 /// Words of a PDU: opcode, common fields, place of the data, the kind's own fields.
 pub type PduWords = [u64; 17];
 /// Words of a response: opcode and its fields.
@@ -9,12 +13,18 @@ pub type ResponseWords = [u64; 10];
 /// A session's answer: a refusal's number or an answer's, and what it carries.
 pub type Answer = [u32; 4];
 
+/// A login's answer: 0 or a refusal's number, status, stage, T, CSG, NSG, TSIH, length of the text.
+pub type LoginWords = [u64; 8];
+
 type Numbers = [u32; 15];
 type Maps = [u64; 6];
 type Headers = [u8; 3072];
 type Tickets = [u32; 64];
 type Statuses = [u8; 6144];
 type StatusTickets = [u32; 128];
+type LoginNumbers = [u64; 8];
+type Values = [u32; 12];
+type Seen = [bool; 28];
 
 /// A session's parts. The proved functions are lent those that they touch.
 #[derive(Clone)]
@@ -27,107 +37,19 @@ pub struct Parts {
     statuses: Statuses,
 }
 
-unsafe extern "C" {
-    fn drawbevel_read(input: *const u8, length: usize, pdu: *mut PduWords) -> u32;
-    fn drawbevel_write(
-        out: *mut u8,
-        length: usize,
-        words: *const ResponseWords,
-        stat_sn: u32,
-        exp_cmd_sn: u32,
-        max_cmd_sn: u32,
-    ) -> u32;
-    fn drawbevel_core_fresh(
-        numbers: *mut Numbers,
-        maps: *mut Maps,
-        headers: *mut Headers,
-        tickets: *mut Tickets,
-        statuses: *mut Statuses,
-        status_tickets: *mut StatusTickets,
-        first: u32,
-        stat_sn: u32,
-        level: u8,
-    );
-    fn drawbevel_core_offer(
-        numbers: *mut Numbers,
-        maps: *mut Maps,
-        headers: *mut Headers,
-        tickets: *mut Tickets,
-        connection: u32,
-        ticket: u32,
-        pdu: *const u8,
-        length: usize,
-        answer: *mut Answer,
-    );
-    fn drawbevel_core_take(
-        numbers: *mut Numbers,
-        maps: *mut Maps,
-        headers: *const Headers,
-        tickets: *const Tickets,
-        out: *mut u8,
-        length: usize,
-        answer: *mut Answer,
-    );
-    fn drawbevel_core_open(
-        numbers: *mut Numbers,
-        maps: *mut Maps,
-        connection: u32,
-        stat_sn: u32,
-        answer: *mut Answer,
-    );
-    fn drawbevel_core_logout(
-        numbers: *mut Numbers,
-        maps: *mut Maps,
-        connection: u32,
-        reason: u8,
-        answer: *mut Answer,
-    );
-    fn drawbevel_core_acknowledge(
-        numbers: *mut Numbers,
-        maps: *mut Maps,
-        connection: u32,
-        exp_stat_sn: u32,
-        answer: *mut Answer,
-    );
-    fn drawbevel_core_snack(
-        numbers: *const Numbers,
-        maps: *const Maps,
-        connection: u32,
-        pdu: *const u8,
-        length: usize,
-        answer: *mut Answer,
-    );
-    fn drawbevel_core_send(
-        numbers: *mut Numbers,
-        maps: *mut Maps,
-        statuses: *mut Statuses,
-        status_tickets: *mut StatusTickets,
-        connection: u32,
-        ticket: u32,
-        words: *const ResponseWords,
-        out: *mut u8,
-        length: usize,
-        answer: *mut Answer,
-    );
-    fn drawbevel_core_resend(
-        numbers: *const Numbers,
-        maps: *const Maps,
-        statuses: *const Statuses,
-        status_tickets: *const StatusTickets,
-        connection: u32,
-        stat_sn: u32,
-        out: *mut u8,
-        length: usize,
-        answer: *mut Answer,
-    );
-    fn drawbevel_core_window(numbers: *const Numbers, maps: *const Maps, answer: *mut Answer);
+/// A login between requests.
+#[derive(Clone)]
+pub struct LoginParts {
+    numbers: LoginNumbers,
+    values: Values,
+    seen: Seen,
 }
 
 /// 0 and the PDU's words, or a refusal's number.
 #[inline]
 pub fn read(input: &[u8], pdu: &mut PduWords) -> u32 {
     // SAFETY: pointer and length are those of one slice, and both references live through the call.
-    unsafe { drawbevel_read(input.as_ptr(), input.len(), pdu) }
+    unsafe { drawbevel_core_read(input.as_ptr(), input.len(), pdu) }
 }
 
 /// 0 and the header in the first 48 bytes of `out`, or a refusal's number.
@@ -136,7 +58,7 @@ pub fn write(out: &mut [u8], words: &ResponseWords, numbers: [u32; 3]) -> u32 {
     let [stat_sn, exp_cmd_sn, max_cmd_sn] = numbers;
     // SAFETY: as above; `out` is borrowed by nothing else.
     unsafe {
-        drawbevel_write(
+        drawbevel_core_write(
             out.as_mut_ptr(),
             out.len(),
             words,
@@ -314,5 +236,53 @@ impl Parts {
         answer_of(|answer| unsafe {
             drawbevel_core_window(&self.numbers, &self.maps, answer);
         })
+    }
+}
+
+impl LoginParts {
+    pub fn fresh() -> Self {
+        let mut l = LoginParts {
+            numbers: [0; 8],
+            values: [0; 12],
+            seen: [false; 28],
+        };
+        unsafe { drawbevel_core_login_fresh(&mut l.numbers, &mut l.values, &mut l.seen) };
+        l
+    }
+
+    /// The values in force, in the order of the table.
+    pub fn values(&self) -> &[u32; 12] {
+        &self.values
+    }
+
+    /// `handles` are the live session's and the new one.
+    pub fn request(
+        &mut self,
+        target_name: &[u8],
+        handles: (u16, u16),
+        gather: &mut [u8],
+        text: &mut [u8],
+        pdu: &[u8],
+    ) -> LoginWords {
+        let mut answer = [0; 8];
+        unsafe {
+            drawbevel_core_login(
+                &mut self.numbers,
+                &mut self.values,
+                &mut self.seen,
+                pdu.as_ptr(),
+                pdu.len(),
+                handles.0,
+                handles.1,
+                target_name.as_ptr(),
+                target_name.len(),
+                gather.as_mut_ptr(),
+                gather.len(),
+                text.as_mut_ptr(),
+                text.len(),
+                &mut answer,
+            );
+        }
+        answer
     }
 }

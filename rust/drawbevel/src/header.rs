@@ -10,7 +10,7 @@ pub fn read(input: &[u8]) -> Result<Pdu, Refusal> {
     let mut words = [0; 17];
     match ffi::read(input, &mut words) {
         0 => Ok(pdu_of(&words)),
-        number => Err(refusal_of(number)),
+        number => Err(refusal_of(number, 0)),
     }
 }
 
@@ -25,6 +25,6 @@ pub fn write(out: &mut [u8], numbers: Numbers, response: &Response) -> Result<()
     let words = words_of(response);
     match ffi::write(out, &words, [stat_sn, exp_cmd_sn, max_cmd_sn]) {
         0 => Ok(()),
-        number => Err(refusal_of(number)),
+        number => Err(refusal_of(number, 0)),
     }
 }

@@ -25,7 +25,7 @@ const NO_ORIGIN: u32 = 4;
 #[inline]
 fn done([answer, a, b, c]: Answer) -> Result<(u32, [u32; 3]), Refusal> {
     if answer < DONE {
-        return Err(refusal_of(answer));
+        return Err(refusal_of(answer, 0));
     }
     Ok((answer, [a, b, c]))
 }

@@ -6,16 +6,16 @@ use calls::{
     TaskManagement,
 };
 
-/// The refusal of a number; a status stands in the high half of number 6.
+/// The refusal of a number, with the status of number 6.
 #[inline]
-pub fn refusal_of(answer: u32) -> Refusal {
-    match answer & 0xffff {
+pub fn refusal_of(number: u32, status: u16) -> Refusal {
+    match number {
         1 => Refusal::Buffer,
         2 => Refusal::Opcode,
         3 => Refusal::Field,
         4 => Refusal::Length,
         5 => Refusal::TooLong,
-        6 => Refusal::Login((answer >> 16) as u16),
+        6 => Refusal::Login(status),
         7 => Refusal::NoConn,
         8 => Refusal::Closed,
         9 => Refusal::Open,

@@ -1,5 +1,7 @@
-//! The scripts in `examples/` are answered as it is written beside them.
+//! The scripts in `examples/` are answered as it is written beside them, by the library and by the model.
 
+use calls::Engine;
+use drawbevel::Drawbevel;
 use model::Model;
 use std::collections::BTreeSet;
 use std::fs;
@@ -33,27 +35,31 @@ fn each_example_is_answered_as_expected() {
         );
     }
     for name in names {
-        let mut answers = Vec::new();
-        replay::play(
-            Model::default(),
-            text(&name, "script").as_bytes(),
-            &mut answers,
-        )
-        .unwrap();
-        let answers = String::from_utf8(answers).unwrap();
-        for (line, (said, wanted)) in answers
-            .lines()
-            .zip(text(&name, "expected").lines())
-            .enumerate()
-        {
-            assert_eq!(said, wanted, "{name}, line {}", line + 1);
-        }
-        assert_eq!(answers.len(), text(&name, "expected").len(), "{name}");
-        assert!(
-            !answers.contains("bad line") && !answers.contains("TOUCHED"),
-            "{name}"
+        check(
+            &name,
+            &answers(Drawbevel::default(), &text(&name, "script")),
         );
+        check(&name, &answers(Model::default(), &text(&name, "script")));
     }
+}
+
+/// The answers of an engine to a script.
+fn answers<E: Engine>(engine: E, script: &str) -> String {
+    let mut answers = Vec::new();
+    script::play(engine, script.as_bytes(), &mut answers).unwrap();
+    String::from_utf8(answers).unwrap()
+}
+
+fn check(name: &str, answers: &str) {
+    let expected = text(name, "expected");
+    for (line, (said, wanted)) in answers.lines().zip(expected.lines()).enumerate() {
+        assert_eq!(said, wanted, "{name}, line {}", line + 1);
+    }
+    assert_eq!(answers.len(), expected.len(), "{name}");
+    assert!(
+        !answers.contains("bad line") && !answers.contains("TOUCHED"),
+        "{name}"
+    );
 }
 
 #[test]

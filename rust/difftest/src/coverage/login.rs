@@ -1,7 +1,7 @@
 //! What a login reached, seen from its calls and answers alone.
 
 use calls::Refusal;
-use replay::{Answer, Call};
+use script::{Answer, Call};
 
 /// What is known of the login of the moment.
 #[derive(Debug, Default)]

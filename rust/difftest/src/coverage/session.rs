@@ -1,7 +1,7 @@
 //! What a session reached, seen from its calls and answers alone.
 
 use calls::{Offer, Response};
-use replay::{Answer, Call};
+use script::{Answer, Call};
 use std::collections::{BTreeMap, BTreeSet};
 
 /// What is known of the session of the moment.

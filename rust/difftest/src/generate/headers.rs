@@ -3,7 +3,7 @@
 use super::damage;
 use super::responses::response;
 use calls::Numbers;
-use replay::Call;
+use script::Call;
 use testkit::pdu::{self, NO_TAG};
 use testkit::{Bytes, Rng};
 

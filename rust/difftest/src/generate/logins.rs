@@ -2,7 +2,7 @@
 
 use super::damage;
 use super::text::{self, Chooser};
-use replay::{Answer, Call};
+use script::{Answer, Call};
 use testkit::pdu::nop_out;
 use testkit::{Bytes, Rng};
 

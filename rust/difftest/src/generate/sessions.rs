@@ -4,7 +4,7 @@ use super::damage;
 use super::headers::lent;
 use super::responses::response;
 use calls::{Offer, Response};
-use replay::{Answer, Call};
+use script::{Answer, Call};
 use std::collections::{BTreeMap, BTreeSet};
 use testkit::pdu::{self, NO_TAG};
 use testkit::{Bytes, Rng};

@@ -1,14 +1,14 @@
 //! The call script, to the letter.
 
 use model::Model;
-use replay::{call_line, hex, parse};
+use script::{call_line, hex, parse};
 use testkit::pdu::{self, block};
 use testkit::{Broken, Fault, Rng};
 
 /// The answers to a script.
 fn answers(script: &[u8]) -> String {
     let mut output = Vec::new();
-    replay::play(Model::default(), script, &mut output).unwrap();
+    script::play(Model::default(), script, &mut output).unwrap();
     String::from_utf8(output).unwrap()
 }
 
@@ -162,7 +162,7 @@ fn input_that_is_no_text_is_answered() {
     );
     assert_eq!(answers(b"login-begin \xff\xfe"), "login\n");
     let mut output = Vec::new();
-    replay::play(Model::default(), &b"#\xff\x00\xfe"[..], &mut output).unwrap();
+    script::play(Model::default(), &b"#\xff\x00\xfe"[..], &mut output).unwrap();
     assert_eq!(output, b"#\xff\x00\xfe\n");
 }
 
@@ -382,7 +382,7 @@ fn touched_bytes_are_reported() {
     let touched = |fault, script: &str| {
         let mut output = Vec::new();
         let engine = Broken::new(Model::default(), fault);
-        replay::play(engine, script.as_bytes(), &mut output).unwrap();
+        script::play(engine, script.as_bytes(), &mut output).unwrap();
         String::from_utf8(output)
             .unwrap()
             .matches(" TOUCHED\n")
@@ -486,7 +486,7 @@ fn random_lines_are_answered_one_for_one() {
         count += 1;
     }
     let mut output = Vec::new();
-    replay::play(Model::default(), &script[..], &mut output).unwrap();
+    script::play(Model::default(), &script[..], &mut output).unwrap();
     assert_eq!(output.iter().filter(|&&byte| byte == b'\n').count(), count);
     assert!(!output.windows(8).any(|w| w == b" TOUCHED"));
 }
