@@ -1,0 +1,196 @@
+//! The calls that are timed.
+
+use crate::timing::nanoseconds;
+use calls::{Engine, HEADER_BYTES, Numbers, Response, TEXT_BYTES};
+use std::hint::black_box;
+use testkit::Bytes;
+use testkit::pdu;
+use testkit::traps::LIBISCSI;
+
+/// Something to time: its name, and how to time it on a fresh engine.
+pub type Case = (&'static str, fn() -> f64);
+
+/// Every case, in the table's order.
+pub fn all<E: Engine + Default>() -> Vec<Case> {
+    vec![
+        ("read NOP-Out", || read::<E>(pdu::nop_out(1).data(b"ping"))),
+        ("read SCSI Command", || {
+            read::<E>(pdu::scsi_command(1).data(&[7; 512]))
+        }),
+        ("read Task Management", || {
+            read::<E>(pdu::task_management(1, 1))
+        }),
+        ("read Login", || read::<E>(pdu::login(0x87, &[b'a'; 400]))),
+        ("read Logout", || read::<E>(pdu::logout(1, 1))),
+        ("read SNACK", || read::<E>(pdu::snack(1, 5, 6))),
+        ("write NOP-In", || write::<E>(NOP_IN)),
+        ("write SCSI Response", || write::<E>(SCSI)),
+        ("write Login Response", || write::<E>(LOGIN)),
+        ("offer + take", offer_take::<E>),
+        ("offer 32 + take 32", offer_take_many::<E>),
+        ("send + ack", send_ack::<E>),
+        ("resend", resend::<E>),
+        ("snack", snack::<E>),
+        ("open + logout", open_logout::<E>),
+        ("login of 19 keys", login::<E>),
+    ]
+}
+
+const NOP_IN: Response = Response::NopIn {
+    data_segment_length: 4,
+    lun: 0,
+    itt: 0x10,
+    ttt: 0xffff_ffff,
+};
+const SCSI: Response = Response::Scsi {
+    overflow: false,
+    underflow: true,
+    response: 0,
+    status: 2,
+    data_segment_length: 20,
+    itt: 0x11,
+    snack_tag: 0,
+    residual: 512,
+};
+const LOGIN: Response = Response::Login {
+    csg: 1,
+    transit: true,
+    nsg: 3,
+    data_segment_length: 300,
+    isid: 0x0002_3d00_0001,
+    tsih: 7,
+    itt: 0x13,
+    status_class: 0,
+    status_detail: 0,
+};
+
+fn read<E: Engine + Default>(bytes: Bytes) -> f64 {
+    let engine = E::default();
+    nanoseconds(|| {
+        let _ = black_box(engine.read(black_box(&bytes.0)));
+    })
+}
+
+fn write<E: Engine + Default>(response: Response) -> f64 {
+    let engine = E::default();
+    let mut out = [0; HEADER_BYTES];
+    let numbers = Numbers {
+        stat_sn: 1,
+        exp_cmd_sn: 2,
+        max_cmd_sn: 3,
+    };
+    nanoseconds(|| {
+        let _ = black_box(engine.write(&mut out, black_box(numbers), black_box(&response)));
+        black_box(&out);
+    })
+}
+
+/// A session of level 1 that holds 16 statuses on connection 0 and has handed out a few commands.
+fn session<E: Engine + Default>() -> E {
+    let mut engine = E::default();
+    engine.begin_session(0xffff_fff0, 1, 1);
+    let mut out = [0; HEADER_BYTES];
+    for ticket in 0..16 {
+        engine.send(0, ticket, &mut out, &SCSI).unwrap();
+    }
+    engine
+}
+
+/// The next command, its number in place.
+fn numbered(bytes: &mut Bytes, number: u32) {
+    bytes.0[24..28].copy_from_slice(&number.to_be_bytes());
+}
+
+fn offer_take<E: Engine + Default>() -> f64 {
+    let mut engine = session::<E>();
+    let mut bytes = pdu::scsi_command(0);
+    let mut out = [0; HEADER_BYTES];
+    let mut number = 0xffff_fff0u32;
+    nanoseconds(|| {
+        numbered(&mut bytes, number);
+        let _ = black_box(engine.offer(0, number, black_box(&bytes.0)));
+        let _ = black_box(engine.take(&mut out));
+        black_box(&out);
+        number = number.wrapping_add(1);
+    })
+}
+
+fn offer_take_many<E: Engine + Default>() -> f64 {
+    let mut engine = session::<E>();
+    let mut bytes = pdu::scsi_command(0);
+    let mut out = [0; HEADER_BYTES];
+    let mut number = 0xffff_fff0u32;
+    nanoseconds(|| {
+        for d in (0..32).rev() {
+            numbered(&mut bytes, number.wrapping_add(d));
+            let _ = black_box(engine.offer(0, d, black_box(&bytes.0)));
+        }
+        for _ in 0..32 {
+            let _ = black_box(engine.take(&mut out));
+        }
+        number = number.wrapping_add(32);
+    })
+}
+
+fn send_ack<E: Engine + Default>() -> f64 {
+    let mut engine = session::<E>();
+    let mut out = [0; HEADER_BYTES];
+    nanoseconds(|| {
+        if let Ok(stat_sn) = engine.send(0, 7, &mut out, black_box(&SCSI)) {
+            let _ = black_box(engine.acknowledge(0, stat_sn.wrapping_sub(15)));
+        }
+        black_box(&out);
+    })
+}
+
+fn resend<E: Engine + Default>() -> f64 {
+    let mut engine = session::<E>();
+    let mut out = [0; HEADER_BYTES];
+    nanoseconds(|| {
+        let _ = black_box(engine.resend(0, black_box(9), &mut out));
+        black_box(&out);
+    })
+}
+
+fn snack<E: Engine + Default>() -> f64 {
+    let mut engine = session::<E>();
+    let bytes = pdu::snack(1, 4, 9);
+    nanoseconds(|| {
+        let _ = black_box(engine.snack(0, black_box(&bytes.0)));
+    })
+}
+
+/// A connection opens, loses a command after a gap, and is logged out, while 32 commands of another are held.
+fn open_logout<E: Engine + Default>() -> f64 {
+    let mut engine = session::<E>();
+    for d in 0..32 {
+        let bytes = pdu::scsi_command(0xffff_fff0u32.wrapping_add(d));
+        engine.offer(0, d, &bytes.0).unwrap();
+    }
+    let lost = pdu::scsi_command(0xffff_fff0u32.wrapping_add(40));
+    nanoseconds(|| {
+        let _ = black_box(engine.open(1, 1));
+        let _ = black_box(engine.offer(1, 1, black_box(&lost.0)));
+        let _ = black_box(engine.logout(1, black_box(1)));
+    })
+}
+
+/// What libiscsi sends, in one request to full feature phase.
+fn login<E: Engine + Default>() -> f64 {
+    let mut engine = E::default();
+    let target = "iqn.2026-11.example:drawbevel";
+    let name = format!("TargetName={target}");
+    let mut pairs = vec!["InitiatorName=iqn.2026-11.example:station", &name];
+    pairs.extend(LIBISCSI);
+    assert_eq!(pairs.len(), 19);
+    let bytes = pdu::login(0x87, &pdu::block(&pairs));
+    let (mut gather, mut text) = ([0; TEXT_BYTES], [0; TEXT_BYTES]);
+    engine.begin_login(target.as_bytes());
+    let answer = engine.login(0, 7, &mut gather, &mut text, &bytes.0);
+    assert_eq!(answer.unwrap().stage, 3);
+    nanoseconds(|| {
+        engine.begin_login(black_box(target.as_bytes()));
+        let _ = black_box(engine.login(0, 7, &mut gather, &mut text, black_box(&bytes.0)));
+        black_box(&text);
+    })
+}

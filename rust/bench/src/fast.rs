@@ -1,0 +1,117 @@
+//! Hand-optimised Rust: `&mut self`, fixed arrays, bit maps relative to the next number, loads of whole words.
+
+mod keys;
+mod ledger;
+mod login;
+mod read;
+mod session;
+mod text;
+mod window;
+mod write;
+
+use calls::{
+    Engine, LoginAnswer, LogoutCounts, Numbers, Offer, Parameters, Pdu, Refusal, Response, Run,
+    Take, Window,
+};
+
+/// The hand-optimised engine.
+#[derive(Clone)]
+pub struct Fast {
+    session: session::Session,
+    login: login::Login,
+}
+
+impl Default for Fast {
+    fn default() -> Self {
+        Fast {
+            session: session::Session::fresh(1, 1, 0),
+            login: login::Login::fresh(b"iqn.2026-11.example:drawbevel"),
+        }
+    }
+}
+
+impl Engine for Fast {
+    fn begin_session(&mut self, first: u32, stat_sn: u32, level: u8) {
+        self.session = session::Session::fresh(first, stat_sn, level);
+    }
+
+    #[inline]
+    fn offer(&mut self, connection: u32, ticket: u32, pdu: &[u8]) -> Result<Offer, Refusal> {
+        self.session.offer(connection, ticket, pdu)
+    }
+
+    #[inline]
+    fn take(&mut self, out: &mut [u8]) -> Result<Take, Refusal> {
+        self.session.take(out)
+    }
+
+    #[inline]
+    fn logout(&mut self, connection: u32, reason: u8) -> Result<LogoutCounts, Refusal> {
+        self.session.logout(connection, reason)
+    }
+
+    #[inline]
+    fn open(&mut self, connection: u32, stat_sn: u32) -> Result<(), Refusal> {
+        self.session.open(connection, stat_sn)
+    }
+
+    #[inline]
+    fn send(
+        &mut self,
+        connection: u32,
+        ticket: u32,
+        out: &mut [u8],
+        response: &Response,
+    ) -> Result<u32, Refusal> {
+        self.session.send(connection, ticket, out, response)
+    }
+
+    #[inline]
+    fn acknowledge(&mut self, connection: u32, exp_stat_sn: u32) -> Result<u32, Refusal> {
+        self.session.acknowledge(connection, exp_stat_sn)
+    }
+
+    #[inline]
+    fn snack(&mut self, connection: u32, pdu: &[u8]) -> Result<Run, Refusal> {
+        self.session.snack(connection, pdu)
+    }
+
+    #[inline]
+    fn resend(&mut self, connection: u32, stat_sn: u32, out: &mut [u8]) -> Result<u32, Refusal> {
+        self.session.resend(connection, stat_sn, out)
+    }
+
+    #[inline]
+    fn window(&self) -> Window {
+        self.session.window()
+    }
+
+    #[inline]
+    fn read(&self, pdu: &[u8]) -> Result<Pdu, Refusal> {
+        read::read(pdu)
+    }
+
+    #[inline]
+    fn write(&self, out: &mut [u8], numbers: Numbers, response: &Response) -> Result<(), Refusal> {
+        write::write(out, numbers, response)
+    }
+
+    fn begin_login(&mut self, target_name: &[u8]) {
+        self.login = login::Login::fresh(target_name);
+    }
+
+    fn login(
+        &mut self,
+        live: u16,
+        new: u16,
+        gather: &mut [u8],
+        text: &mut [u8],
+        pdu: &[u8],
+    ) -> Result<LoginAnswer, Refusal> {
+        self.login.request(live, new, gather, text, pdu)
+    }
+
+    fn parameters(&self) -> Parameters {
+        self.login.parameters()
+    }
+}

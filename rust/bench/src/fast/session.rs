@@ -1,0 +1,167 @@
+//! One window and four ledgers.
+
+use super::ledger::Ledger;
+use super::read::{be32, offered, read};
+use super::window::CommandWindow;
+use super::write::{header, judge};
+use calls::{
+    HEADER_BYTES, LogoutCounts, Numbers, Offer, Refusal, Request, Response, Run, Take, Window,
+};
+
+#[derive(Clone)]
+pub struct Session {
+    window: CommandWindow,
+    ledgers: [Ledger; 4],
+    level: u8,
+}
+
+impl Session {
+    pub fn fresh(first: u32, stat_sn: u32, level: u8) -> Self {
+        let mut session = Session {
+            window: CommandWindow::fresh(first),
+            ledgers: std::array::from_fn(|_| Ledger::closed()),
+            level,
+        };
+        session.ledgers[0].open(stat_sn);
+        session
+    }
+
+    #[inline]
+    fn ledger(&mut self, connection: u32) -> Result<&mut Ledger, Refusal> {
+        match self.ledgers.get_mut(connection as usize) {
+            None => Err(Refusal::NoConn),
+            Some(ledger) if !ledger.open => Err(Refusal::Closed),
+            Some(ledger) => Ok(ledger),
+        }
+    }
+
+    #[inline]
+    pub fn window(&self) -> Window {
+        Window {
+            exp_cmd_sn: self.window.exp_cmd_sn(),
+            max_cmd_sn: self.window.max_cmd_sn(),
+        }
+    }
+
+    #[inline]
+    pub fn offer(&mut self, connection: u32, ticket: u32, pdu: &[u8]) -> Result<Offer, Refusal> {
+        self.ledger(connection)?;
+        let (header, immediate) = offered(pdu)?;
+        if immediate {
+            return Ok(Offer::Immediate);
+        }
+        let number = be32(header, 24);
+        Ok(self
+            .window
+            .offer(number, header, ticket, connection as usize))
+    }
+
+    #[inline]
+    pub fn take(&mut self, out: &mut [u8]) -> Result<Take, Refusal> {
+        match out.first_chunk_mut::<HEADER_BYTES>() {
+            Some(out) => Ok(self.window.take(out)),
+            None => Err(Refusal::Buffer),
+        }
+    }
+
+    #[inline]
+    pub fn logout(&mut self, connection: u32, reason: u8) -> Result<LogoutCounts, Refusal> {
+        self.ledger(connection)?;
+        if reason > 2 {
+            return Err(Refusal::Field);
+        }
+        let counts = self.window.logout(connection as usize, reason);
+        if reason == 0 {
+            for ledger in &mut self.ledgers {
+                ledger.open = false;
+            }
+        } else {
+            self.ledgers[connection as usize].open = false;
+        }
+        Ok(counts)
+    }
+
+    #[inline]
+    pub fn open(&mut self, connection: u32, stat_sn: u32) -> Result<(), Refusal> {
+        match self.ledgers.get_mut(connection as usize) {
+            None => Err(Refusal::NoConn),
+            Some(ledger) if ledger.open => Err(Refusal::Open),
+            Some(ledger) => {
+                ledger.open(stat_sn);
+                Ok(())
+            }
+        }
+    }
+
+    #[inline]
+    pub fn send(
+        &mut self,
+        connection: u32,
+        ticket: u32,
+        out: &mut [u8],
+        response: &Response,
+    ) -> Result<u32, Refusal> {
+        let Some(out) = out.first_chunk_mut::<HEADER_BYTES>() else {
+            return Err(Refusal::Buffer);
+        };
+        let window = self.window();
+        let ledger = self.ledger(connection)?;
+        judge(response)?;
+        let stored = !matches!(
+            response,
+            Response::NopIn {
+                itt: 0xffff_ffff,
+                ..
+            }
+        );
+        if stored && ledger.is_full() {
+            return Err(Refusal::Full);
+        }
+        let stat_sn = ledger.next();
+        let numbers = Numbers {
+            stat_sn,
+            exp_cmd_sn: window.exp_cmd_sn,
+            max_cmd_sn: window.max_cmd_sn,
+        };
+        *out = header(numbers, response);
+        if stored {
+            ledger.store(out, ticket);
+        }
+        Ok(stat_sn)
+    }
+
+    #[inline]
+    pub fn acknowledge(&mut self, connection: u32, exp_stat_sn: u32) -> Result<u32, Refusal> {
+        self.ledger(connection)?.acknowledge(exp_stat_sn)
+    }
+
+    #[inline]
+    pub fn snack(&mut self, connection: u32, pdu: &[u8]) -> Result<Run, Refusal> {
+        let level = self.level;
+        let ledger = self.ledger(connection)?;
+        match read(pdu)?.request {
+            Request::Snack(s) if s.kind == 1 && level > 0 => ledger.run(s.beg_run, s.run_length),
+            Request::Snack(_) => Err(Refusal::Snack),
+            _ => Err(Refusal::Field),
+        }
+    }
+
+    #[inline]
+    pub fn resend(
+        &mut self,
+        connection: u32,
+        stat_sn: u32,
+        out: &mut [u8],
+    ) -> Result<u32, Refusal> {
+        let Some(out) = out.first_chunk_mut::<HEADER_BYTES>() else {
+            return Err(Refusal::Buffer);
+        };
+        let numbers = (self.window.exp_cmd_sn(), self.window.max_cmd_sn());
+        let level = self.level;
+        let ledger = self.ledger(connection)?;
+        if level == 0 {
+            return Err(Refusal::Snack);
+        }
+        ledger.resend(stat_sn, numbers, out)
+    }
+}

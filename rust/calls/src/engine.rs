@@ -1,0 +1,58 @@
+//! What an engine is: something that answers the calls of document 01.
+
+use crate::{
+    LoginAnswer, LogoutCounts, Numbers, Offer, Parameters, Pdu, Refusal, Response, Run, Take,
+    Window,
+};
+
+/// One session, one login, and the header reader and writer. Outputs are lent by the caller as slices of any length;
+/// an engine writes what the rules say and no other byte.
+pub trait Engine {
+    /// A fresh session: its first command number, connection 0's first StatSN, and the ErrorRecoveryLevel.
+    fn begin_session(&mut self, first: u32, stat_sn: u32, level: u8);
+    /// Offer a whole PDU that came on a connection.
+    fn offer(&mut self, connection: u32, ticket: u32, pdu: &[u8]) -> Result<Offer, Refusal>;
+    /// Hand out the next command; its header is written to `out`.
+    fn take(&mut self, out: &mut [u8]) -> Result<Take, Refusal>;
+    /// A logout's effect on an open connection.
+    fn logout(&mut self, connection: u32, reason: u8) -> Result<LogoutCounts, Refusal>;
+    /// Open a closed connection.
+    fn open(&mut self, connection: u32, stat_sn: u32) -> Result<(), Refusal>;
+    /// Send a response; its header is written to `out`. The answer is its StatSN.
+    fn send(
+        &mut self,
+        connection: u32,
+        ticket: u32,
+        out: &mut [u8],
+        response: &Response,
+    ) -> Result<u32, Refusal>;
+    /// Acknowledge every status before this number. The answer is how many were released.
+    fn acknowledge(&mut self, connection: u32, exp_stat_sn: u32) -> Result<u32, Refusal>;
+    /// A status SNACK, a whole PDU.
+    fn snack(&mut self, connection: u32, pdu: &[u8]) -> Result<Run, Refusal>;
+    /// Write a held status again, to `out`. The answer is its ticket.
+    fn resend(&mut self, connection: u32, stat_sn: u32, out: &mut [u8]) -> Result<u32, Refusal>;
+    /// Both numbers of the command window.
+    fn window(&self) -> Window;
+
+    /// Read a whole PDU.
+    fn read(&self, pdu: &[u8]) -> Result<Pdu, Refusal>;
+    /// Write a response's header to `out`.
+    fn write(&self, out: &mut [u8], numbers: Numbers, response: &Response) -> Result<(), Refusal>;
+
+    /// A fresh login to the target of this name.
+    fn begin_login(&mut self, target_name: &[u8]);
+    /// Answer a login request. `live` is the live session's handle or 0, `new` the handle for a new session; `gather`
+    /// is the area where text is gathered, lent at every call as the last call left it; the answer's text is written
+    /// to `text`.
+    fn login(
+        &mut self,
+        live: u16,
+        new: u16,
+        gather: &mut [u8],
+        text: &mut [u8],
+        pdu: &[u8],
+    ) -> Result<LoginAnswer, Refusal>;
+    /// The login's parameters in force.
+    fn parameters(&self) -> Parameters;
+}

@@ -1,0 +1,127 @@
+//! What a run reached. A clean run counts only if everything in the list of what is required was seen.
+
+mod login;
+mod required;
+mod session;
+
+pub use required::required;
+
+use calls::{Offer, Request};
+use script::{Answer, Call, Played};
+use std::collections::BTreeMap;
+
+/// How often something must have been seen.
+const ENOUGH: u64 = 3;
+
+/// What was seen, and how often.
+#[derive(Debug, Default)]
+pub struct Coverage {
+    seen: BTreeMap<String, u64>,
+    session: session::View,
+    login: login::View,
+}
+
+impl Coverage {
+    /// Record a call and its answer.
+    pub fn saw(&mut self, call: &Call, played: &Played) {
+        let answer = &played.answer;
+        let mut marks = vec![format!("{}: {}", call_name(call), answer_name(answer))];
+        if let Answer::Refused(refusal) = answer {
+            marks.push(format!("refusal {}", refusal.number()));
+            if let Some(status) = refusal.status() {
+                marks.push(format!("status {status:#06x}"));
+            }
+        }
+        if let Answer::Written(header) | Answer::Sent(_, header) = answer {
+            marks.push(format!("{} {:#04x}", call_name(call), header[0]));
+        }
+        self.session.saw(call, answer, &mut marks);
+        self.login.saw(call, answer, &mut marks);
+        for mark in marks {
+            *self.seen.entry(mark).or_default() += 1;
+        }
+    }
+
+    /// How often something was seen.
+    pub fn count(&self, mark: &str) -> u64 {
+        self.seen.get(mark).copied().unwrap_or(0)
+    }
+
+    /// Everything that is required and wasn't seen often enough.
+    pub fn missing(&self) -> Vec<String> {
+        let seen_enough = |mark: &String| self.count(mark) >= ENOUGH;
+        required()
+            .into_iter()
+            .filter(|mark| !seen_enough(mark))
+            .collect()
+    }
+
+    /// Panic where something is missing.
+    pub fn assert_whole(&self) {
+        let missing = self.missing();
+        assert!(missing.is_empty(), "not reached: {missing:#?}");
+    }
+
+    /// Everything that was seen, with its count.
+    pub fn seen(&self) -> impl Iterator<Item = (&str, u64)> {
+        self.seen.iter().map(|(mark, &count)| (&mark[..], count))
+    }
+}
+
+fn call_name(call: &Call) -> &'static str {
+    match call {
+        Call::Session { .. } => "session",
+        Call::Offer { .. } => "offer",
+        Call::Take { .. } => "take",
+        Call::Logout { .. } => "logout",
+        Call::Open { .. } => "open",
+        Call::Send { .. } => "send",
+        Call::Acknowledge { .. } => "ack",
+        Call::Snack { .. } => "snack",
+        Call::Resend { .. } => "resend",
+        Call::Window => "window",
+        Call::Read { .. } => "read",
+        Call::Write { .. } => "write",
+        Call::LoginBegin { .. } => "login-begin",
+        Call::Login { .. } => "login",
+        Call::Params => "params",
+    }
+}
+
+fn answer_name(answer: &Answer) -> String {
+    let name = match answer {
+        Answer::Session => "session",
+        Answer::Offered(Offer::Kept) => "kept",
+        Answer::Offered(Offer::Duplicate) => "duplicate",
+        Answer::Offered(Offer::Passed) => "passed",
+        Answer::Offered(Offer::Beyond) => "beyond",
+        Answer::Offered(Offer::Immediate) => "immediate",
+        Answer::Nothing => "nothing",
+        Answer::Void(_) => "void",
+        Answer::Out(out, _) if out.origin.is_none() => "out, origin none",
+        Answer::Out(..) => "out",
+        Answer::LoggedOut(_) => "logged out",
+        Answer::Opened => "opened",
+        Answer::Sent(..) => "sent",
+        Answer::Acknowledged(0) => "acknowledged none",
+        Answer::Acknowledged(_) => "acknowledged",
+        Answer::Run(_) => "run",
+        Answer::Resent(..) => "resent",
+        Answer::Window(_) => "window",
+        Answer::Read(pdu) => match pdu.request {
+            Request::NopOut(_) => "nop-out",
+            Request::ScsiCommand(_) => "scsi-command",
+            Request::TaskManagement(_) => "task-management",
+            Request::Login(_) => "login",
+            Request::Logout(_) => "logout",
+            Request::Snack(_) => "snack",
+        },
+        Answer::Written(_) => "written",
+        Answer::LoginBegun => "begun",
+        Answer::Login(answer, _) if answer.transit => "answer, T set",
+        Answer::Login(..) => "answer, T clear",
+        Answer::Params(_) => "params",
+        Answer::Refused(refusal) => return format!("refused {}", refusal.number()),
+    };
+    name.into()
+}

@@ -1,0 +1,259 @@
+//! What a session reached, seen from its calls and answers alone.
+
+use calls::{Offer, Response};
+use script::{Answer, Call};
+use std::collections::{BTreeMap, BTreeSet};
+
+/// What is known of the session of the moment.
+#[derive(Debug, Default)]
+pub struct View {
+    level: u8,
+    next: u32,
+    handed: u32,
+    held: BTreeMap<u32, u32>,
+    kept_ever: BTreeSet<u32>,
+    void: u32,
+    open: BTreeSet<u32>,
+    closed_by: BTreeMap<u32, u8>,
+    /// The held statuses of each connection, with their headers.
+    statuses: BTreeMap<u32, Vec<(u32, [u8; 48])>>,
+}
+
+impl View {
+    pub fn saw(&mut self, call: &Call, answer: &Answer, marks: &mut Vec<String>) {
+        let mut mark = |text: &str| marks.push(text.into());
+        match (call, answer) {
+            (Call::Session { first, level, .. }, _) => {
+                *self = View {
+                    level: *level,
+                    next: *first,
+                    open: BTreeSet::from([0]),
+                    ..View::default()
+                };
+            }
+            (
+                Call::Offer {
+                    connection, pdu, ..
+                },
+                Answer::Offered(offer),
+            ) => {
+                self.offered(*connection, number(pdu, 24), *offer, &mut mark);
+            }
+            (_, Answer::Void(_)) => {
+                self.void = self.void.saturating_sub(1);
+                self.handed_out();
+            }
+            (_, Answer::Out(..)) => self.handed_out(),
+            (_, Answer::Window(window)) => {
+                let gapless = window.exp_cmd_sn.wrapping_sub(self.next);
+                if gapless == 64 {
+                    mark("window: 64 held without a gap");
+                }
+                if window.max_cmd_sn < self.next {
+                    mark("window: across the wrap");
+                }
+                if (gapless as usize) < self.held.len() {
+                    mark("window: a gap");
+                }
+            }
+            (Call::Logout { connection, reason }, Answer::LoggedOut(counts)) => {
+                self.logged_out(
+                    *connection,
+                    *reason,
+                    (counts.emptied, counts.voided),
+                    &mut mark,
+                );
+            }
+            (Call::Open { connection, .. }, Answer::Opened) => {
+                match self.closed_by.get(connection) {
+                    Some(0) => mark("opened again after reason 0"),
+                    Some(_) => mark("opened again"),
+                    None => {}
+                }
+                self.open.insert(*connection);
+            }
+            _ => self.ledger(call, answer, &mut mark),
+        }
+    }
+
+    fn handed_out(&mut self) {
+        self.held.remove(&self.next);
+        self.next = self.next.wrapping_add(1);
+        self.handed += 1;
+    }
+
+    fn offered(&mut self, connection: u32, number: u32, offer: Offer, mark: &mut impl FnMut(&str)) {
+        let back = self.next.wrapping_sub(number);
+        match offer {
+            Offer::Kept => {
+                self.held.insert(number, connection);
+                if !self.kept_ever.insert(number) {
+                    mark("kept again after it was emptied");
+                }
+            }
+            Offer::Duplicate if number.wrapping_sub(self.next) < self.void => {
+                // The void numbers aren't known one by one; of those at the front some are.
+                mark("duplicate of a void number");
+            }
+            Offer::Passed if back > 64 => mark("passed more than 64 back"),
+            Offer::Beyond if back < 1 << 31 => mark("beyond behind R"),
+            _ => {}
+        }
+    }
+
+    fn logged_out(
+        &mut self,
+        connection: u32,
+        reason: u8,
+        (emptied, voided): (u32, u32),
+        mark: &mut impl FnMut(&str),
+    ) {
+        if emptied > 0 {
+            mark(&format!("logout {reason} emptied"));
+        }
+        if voided > 0 {
+            mark(&format!("logout {reason} voided"));
+        }
+        let own = self
+            .held
+            .values()
+            .filter(|&&origin| origin == connection)
+            .count();
+        if reason == 2 && own > emptied as usize {
+            mark("logout 2 leaves commands");
+        }
+        if reason == 0 && self.void > 0 {
+            mark("logout 0 with void numbers held");
+        }
+        if reason == 0 && self.open.len() > 1 {
+            mark("logout 0 closes others");
+        }
+        self.void += voided;
+        let closed: Vec<_> = match reason {
+            0 => self.open.iter().copied().collect(),
+            _ => vec![connection],
+        };
+        for each in closed {
+            self.open.remove(&each);
+            self.closed_by.insert(each, reason);
+            self.statuses.remove(&each);
+        }
+        self.forget_emptied(connection, reason);
+    }
+
+    /// Numbers after the gap went with the logout.
+    fn forget_emptied(&mut self, connection: u32, reason: u8) {
+        let mut gap = self.next;
+        while self.held.contains_key(&gap) {
+            gap = gap.wrapping_add(1);
+        }
+        let (next, gapless) = (self.next, gap.wrapping_sub(self.next));
+        self.held.retain(|number, origin| {
+            let before = number.wrapping_sub(next) < gapless;
+            before || (reason != 0 && *origin != connection)
+        });
+    }
+
+    fn ledger(&mut self, call: &Call, answer: &Answer, mark: &mut impl FnMut(&str)) {
+        match (call, answer) {
+            (
+                Call::Send {
+                    connection,
+                    response,
+                    ..
+                },
+                Answer::Sent(stat_sn, header),
+            ) => {
+                let held = self.statuses.entry(*connection).or_default();
+                if matches!(
+                    response,
+                    Response::NopIn {
+                        itt: 0xffff_ffff,
+                        ..
+                    }
+                ) {
+                    if held.len() == 32 {
+                        mark("ledger: NOP-In without tag sent when full");
+                    }
+                    return;
+                }
+                held.push((*stat_sn, *header));
+                if held.len() == 32 {
+                    mark("ledger: 32 held");
+                }
+                if held[0].0 > *stat_sn {
+                    mark("ledger: across the wrap");
+                }
+            }
+            (Call::Acknowledge { connection, .. }, Answer::Acknowledged(count)) => {
+                let held = self.statuses.entry(*connection).or_default();
+                held.drain(..(*count as usize).min(held.len()));
+            }
+            (
+                Call::Resend {
+                    connection,
+                    stat_sn,
+                    ..
+                },
+                _,
+            ) => {
+                let held = self.statuses.entry(*connection).or_default();
+                let sent = held.iter().find(|(number, _)| number == stat_sn);
+                match (answer, sent) {
+                    (Answer::Resent(_, again), Some((_, sent))) if again != sent => {
+                        mark("resent with other window numbers");
+                    }
+                    (Answer::Refused(calls::Refusal::Snack), Some(_)) if self.level == 0 => {
+                        mark("resend: refused at level 0 though held");
+                    }
+                    _ => {}
+                }
+            }
+            (Call::Snack { connection, pdu }, _) if pdu.len() >= 48 => {
+                let held = self.statuses.get(connection).map_or(0, Vec::len);
+                snack(
+                    number(pdu, 40),
+                    number(pdu, 44),
+                    held,
+                    self.level,
+                    answer,
+                    mark,
+                );
+            }
+            _ => {}
+        }
+    }
+}
+
+fn snack(
+    beg_run: u32,
+    run_length: u32,
+    held: usize,
+    level: u8,
+    answer: &Answer,
+    mark: &mut impl FnMut(&str),
+) {
+    let all = beg_run == 0 && run_length == 0;
+    match answer {
+        Answer::Run(run) if all && run.count == 0 => mark("run: all of none"),
+        Answer::Run(run) if all && run.count > 1 => mark("run: all of several"),
+        Answer::Run(run) if run_length == 0 && run.count > 0 && !all => mark("run: to the end"),
+        Answer::Run(run) if run.count < held as u32 => {
+            mark("run: a part");
+            if beg_run == 0 {
+                mark("run: begins at 0 with a length");
+            }
+        }
+        Answer::Refused(calls::Refusal::Snack) if level == 0 && all => {
+            mark("run: refused at level 0");
+        }
+        Answer::Refused(calls::Refusal::Snack) if level > 0 && run_length > 1 => {
+            mark("run: refused past the end");
+        }
+        _ => {}
+    }
+}
+
+fn number(pdu: &[u8], at: usize) -> u32 {
+    u32::from_be_bytes([pdu[at], pdu[at + 1], pdu[at + 2], pdu[at + 3]])
+}

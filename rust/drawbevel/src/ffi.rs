@@ -1,0 +1,288 @@
+//! The C functions, each behind a safe one. Nothing checks these declarations against the proved source: keep them in
+//! step with `include/drawbevel.h`.
+#![allow(unsafe_code)]
+
+mod c;
+
+use c::*;
+
+/// Words of a PDU: opcode, common fields, place of the data, the kind's own fields.
+pub type PduWords = [u64; 17];
+/// Words of a response: opcode and its fields.
+pub type ResponseWords = [u64; 10];
+/// A session's answer: a refusal's number or an answer's, and what it carries.
+pub type Answer = [u32; 4];
+
+/// A login's answer: 0 or a refusal's number, status, stage, T, CSG, NSG, TSIH, length of the text.
+pub type LoginWords = [u64; 8];
+
+type Numbers = [u32; 15];
+type Maps = [u64; 6];
+type Headers = [u8; 3072];
+type Tickets = [u32; 64];
+type Statuses = [u8; 6144];
+type StatusTickets = [u32; 128];
+type LoginNumbers = [u64; 8];
+type Values = [u32; 12];
+type Seen = [bool; 28];
+
+/// A session's parts. The proved functions are lent those that they touch.
+#[derive(Clone)]
+pub struct Parts {
+    numbers: Numbers,
+    maps: Maps,
+    tickets: Tickets,
+    status_tickets: StatusTickets,
+    headers: Headers,
+    statuses: Statuses,
+}
+
+/// A login between requests.
+#[derive(Clone)]
+pub struct LoginParts {
+    numbers: LoginNumbers,
+    values: Values,
+    seen: Seen,
+}
+
+/// 0 and the PDU's words, or a refusal's number.
+#[inline]
+pub fn read(input: &[u8], pdu: &mut PduWords) -> u32 {
+    // SAFETY: pointer and length are those of one slice, and both references live through the call.
+    unsafe { drawbevel_core_read(input.as_ptr(), input.len(), pdu) }
+}
+
+/// 0 and the header in the first 48 bytes of `out`, or a refusal's number.
+#[inline]
+pub fn write(out: &mut [u8], words: &ResponseWords, numbers: [u32; 3]) -> u32 {
+    let [stat_sn, exp_cmd_sn, max_cmd_sn] = numbers;
+    // SAFETY: as above; `out` is borrowed by nothing else.
+    unsafe {
+        drawbevel_core_write(
+            out.as_mut_ptr(),
+            out.len(),
+            words,
+            stat_sn,
+            exp_cmd_sn,
+            max_cmd_sn,
+        )
+    }
+}
+
+/// The answer that a call leaves in its four words.
+#[inline]
+fn answer_of(call: impl FnOnce(&mut Answer)) -> Answer {
+    let mut answer = [0; 4];
+    call(&mut answer);
+    answer
+}
+
+// SAFETY of all calls below: every pointer is made from a reference that lives through the call, a pointer and a length
+// from one slice, and no two that are written to overlap, since each is a field of its own or another argument.
+impl Parts {
+    pub fn fresh(first: u32, stat_sn: u32, level: u8) -> Self {
+        let mut s = Parts {
+            numbers: [0; 15],
+            maps: [0; 6],
+            tickets: [0; 64],
+            status_tickets: [0; 128],
+            headers: [0; 3072],
+            statuses: [0; 6144],
+        };
+        unsafe {
+            drawbevel_core_fresh(
+                &mut s.numbers,
+                &mut s.maps,
+                &mut s.headers,
+                &mut s.tickets,
+                &mut s.statuses,
+                &mut s.status_tickets,
+                first,
+                stat_sn,
+                level,
+            );
+        }
+        s
+    }
+
+    #[inline]
+    pub fn offer(&mut self, connection: u32, ticket: u32, pdu: &[u8]) -> Answer {
+        answer_of(|answer| unsafe {
+            drawbevel_core_offer(
+                &mut self.numbers,
+                &mut self.maps,
+                &mut self.headers,
+                &mut self.tickets,
+                connection,
+                ticket,
+                pdu.as_ptr(),
+                pdu.len(),
+                answer,
+            );
+        })
+    }
+
+    #[inline]
+    pub fn take(&mut self, out: &mut [u8]) -> Answer {
+        answer_of(|answer| unsafe {
+            drawbevel_core_take(
+                &mut self.numbers,
+                &mut self.maps,
+                &self.headers,
+                &self.tickets,
+                out.as_mut_ptr(),
+                out.len(),
+                answer,
+            );
+        })
+    }
+
+    #[inline]
+    pub fn open(&mut self, connection: u32, stat_sn: u32) -> Answer {
+        answer_of(|answer| unsafe {
+            drawbevel_core_open(
+                &mut self.numbers,
+                &mut self.maps,
+                connection,
+                stat_sn,
+                answer,
+            );
+        })
+    }
+
+    #[inline]
+    pub fn logout(&mut self, connection: u32, reason: u8) -> Answer {
+        answer_of(|answer| unsafe {
+            drawbevel_core_logout(
+                &mut self.numbers,
+                &mut self.maps,
+                connection,
+                reason,
+                answer,
+            );
+        })
+    }
+
+    #[inline]
+    pub fn acknowledge(&mut self, connection: u32, exp_stat_sn: u32) -> Answer {
+        answer_of(|answer| unsafe {
+            drawbevel_core_acknowledge(
+                &mut self.numbers,
+                &mut self.maps,
+                connection,
+                exp_stat_sn,
+                answer,
+            );
+        })
+    }
+
+    #[inline]
+    pub fn snack(&self, connection: u32, pdu: &[u8]) -> Answer {
+        answer_of(|answer| unsafe {
+            drawbevel_core_snack(
+                &self.numbers,
+                &self.maps,
+                connection,
+                pdu.as_ptr(),
+                pdu.len(),
+                answer,
+            );
+        })
+    }
+
+    #[inline]
+    pub fn send(
+        &mut self,
+        connection: u32,
+        ticket: u32,
+        out: &mut [u8],
+        words: &ResponseWords,
+    ) -> Answer {
+        answer_of(|answer| unsafe {
+            drawbevel_core_send(
+                &mut self.numbers,
+                &mut self.maps,
+                &mut self.statuses,
+                &mut self.status_tickets,
+                connection,
+                ticket,
+                words,
+                out.as_mut_ptr(),
+                out.len(),
+                answer,
+            );
+        })
+    }
+
+    #[inline]
+    pub fn resend(&self, connection: u32, stat_sn: u32, out: &mut [u8]) -> Answer {
+        answer_of(|answer| unsafe {
+            drawbevel_core_resend(
+                &self.numbers,
+                &self.maps,
+                &self.statuses,
+                &self.status_tickets,
+                connection,
+                stat_sn,
+                out.as_mut_ptr(),
+                out.len(),
+                answer,
+            );
+        })
+    }
+
+    #[inline]
+    pub fn window(&self) -> Answer {
+        answer_of(|answer| unsafe {
+            drawbevel_core_window(&self.numbers, &self.maps, answer);
+        })
+    }
+}
+
+impl LoginParts {
+    pub fn fresh() -> Self {
+        let mut l = LoginParts {
+            numbers: [0; 8],
+            values: [0; 12],
+            seen: [false; 28],
+        };
+        unsafe { drawbevel_core_login_fresh(&mut l.numbers, &mut l.values, &mut l.seen) };
+        l
+    }
+
+    /// The values in force, in the order of the table.
+    pub fn values(&self) -> &[u32; 12] {
+        &self.values
+    }
+
+    /// `handles` are the live session's and the new one.
+    pub fn request(
+        &mut self,
+        target_name: &[u8],
+        handles: (u16, u16),
+        gather: &mut [u8],
+        text: &mut [u8],
+        pdu: &[u8],
+    ) -> LoginWords {
+        let mut answer = [0; 8];
+        unsafe {
+            drawbevel_core_login(
+                &mut self.numbers,
+                &mut self.values,
+                &mut self.seen,
+                pdu.as_ptr(),
+                pdu.len(),
+                handles.0,
+                handles.1,
+                target_name.as_ptr(),
+                target_name.len(),
+                gather.as_mut_ptr(),
+                gather.len(),
+                text.as_mut_ptr(),
+                text.len(),
+                &mut answer,
+            );
+        }
+        answer
+    }
+}

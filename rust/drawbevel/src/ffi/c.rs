@@ -1,0 +1,123 @@
+//! The declarations, in the order and with the widths of `include/drawbevel.h`.
+
+use super::{
+    Answer, Headers, LoginNumbers, LoginWords, Maps, Numbers, PduWords, ResponseWords, Seen,
+    StatusTickets, Statuses, Tickets, Values,
+};
+
+unsafe extern "C" {
+    pub fn drawbevel_core_read(input: *const u8, length: usize, pdu: *mut PduWords) -> u32;
+    pub fn drawbevel_core_write(
+        out: *mut u8,
+        length: usize,
+        words: *const ResponseWords,
+        stat_sn: u32,
+        exp_cmd_sn: u32,
+        max_cmd_sn: u32,
+    ) -> u32;
+    pub fn drawbevel_core_fresh(
+        numbers: *mut Numbers,
+        maps: *mut Maps,
+        headers: *mut Headers,
+        tickets: *mut Tickets,
+        statuses: *mut Statuses,
+        status_tickets: *mut StatusTickets,
+        first: u32,
+        stat_sn: u32,
+        level: u8,
+    );
+    pub fn drawbevel_core_offer(
+        numbers: *mut Numbers,
+        maps: *mut Maps,
+        headers: *mut Headers,
+        tickets: *mut Tickets,
+        connection: u32,
+        ticket: u32,
+        pdu: *const u8,
+        length: usize,
+        answer: *mut Answer,
+    );
+    pub fn drawbevel_core_take(
+        numbers: *mut Numbers,
+        maps: *mut Maps,
+        headers: *const Headers,
+        tickets: *const Tickets,
+        out: *mut u8,
+        length: usize,
+        answer: *mut Answer,
+    );
+    pub fn drawbevel_core_open(
+        numbers: *mut Numbers,
+        maps: *mut Maps,
+        connection: u32,
+        stat_sn: u32,
+        answer: *mut Answer,
+    );
+    pub fn drawbevel_core_logout(
+        numbers: *mut Numbers,
+        maps: *mut Maps,
+        connection: u32,
+        reason: u8,
+        answer: *mut Answer,
+    );
+    pub fn drawbevel_core_acknowledge(
+        numbers: *mut Numbers,
+        maps: *mut Maps,
+        connection: u32,
+        exp_stat_sn: u32,
+        answer: *mut Answer,
+    );
+    pub fn drawbevel_core_snack(
+        numbers: *const Numbers,
+        maps: *const Maps,
+        connection: u32,
+        pdu: *const u8,
+        length: usize,
+        answer: *mut Answer,
+    );
+    pub fn drawbevel_core_send(
+        numbers: *mut Numbers,
+        maps: *mut Maps,
+        statuses: *mut Statuses,
+        status_tickets: *mut StatusTickets,
+        connection: u32,
+        ticket: u32,
+        words: *const ResponseWords,
+        out: *mut u8,
+        length: usize,
+        answer: *mut Answer,
+    );
+    pub fn drawbevel_core_resend(
+        numbers: *const Numbers,
+        maps: *const Maps,
+        statuses: *const Statuses,
+        status_tickets: *const StatusTickets,
+        connection: u32,
+        stat_sn: u32,
+        out: *mut u8,
+        length: usize,
+        answer: *mut Answer,
+    );
+    pub fn drawbevel_core_window(numbers: *const Numbers, maps: *const Maps, answer: *mut Answer);
+    pub fn drawbevel_core_login_fresh(
+        numbers: *mut LoginNumbers,
+        values: *mut Values,
+        seen: *mut Seen,
+    );
+    pub fn drawbevel_core_login(
+        numbers: *mut LoginNumbers,
+        values: *mut Values,
+        seen: *mut Seen,
+        pdu: *const u8,
+        length: usize,
+        live: u16,
+        new: u16,
+        target_name: *const u8,
+        name_length: usize,
+        gather: *mut u8,
+        gather_lent: usize,
+        text: *mut u8,
+        text_lent: usize,
+        answer: *mut LoginWords,
+    );
+}

@@ -1,0 +1,30 @@
+//! The header reader and writer.
+
+use crate::ffi;
+use crate::words::{pdu_of, refusal_of, words_of};
+use calls::{Numbers, Pdu, Refusal, Response};
+
+/// Read a whole PDU.
+#[inline]
+pub fn read(input: &[u8]) -> Result<Pdu, Refusal> {
+    let mut words = [0; 17];
+    match ffi::read(input, &mut words) {
+        0 => Ok(pdu_of(&words)),
+        number => Err(refusal_of(number, 0)),
+    }
+}
+
+/// Write a response's header into the first 48 bytes of `out`.
+#[inline]
+pub fn write(out: &mut [u8], numbers: Numbers, response: &Response) -> Result<(), Refusal> {
+    let Numbers {
+        stat_sn,
+        exp_cmd_sn,
+        max_cmd_sn,
+    } = numbers;
+    let words = words_of(response);
+    match ffi::write(out, &words, [stat_sn, exp_cmd_sn, max_cmd_sn]) {
+        0 => Ok(()),
+        number => Err(refusal_of(number, 0)),
+    }
+}

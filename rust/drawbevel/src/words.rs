@@ -1,0 +1,162 @@
+//! PDUs, responses and refusals as the words that cross the boundary.
+
+use crate::ffi::{PduWords, ResponseWords};
+use calls::{
+    Data, Login, Logout, NopOut, Pdu, Refusal, Request, Response, ScsiCommand, Snack,
+    TaskManagement,
+};
+
+/// The refusal of a number, with the status of number 6.
+#[inline]
+pub fn refusal_of(number: u32, status: u16) -> Refusal {
+    match number {
+        1 => Refusal::Buffer,
+        2 => Refusal::Opcode,
+        3 => Refusal::Field,
+        4 => Refusal::Length,
+        5 => Refusal::TooLong,
+        6 => Refusal::Login(status),
+        7 => Refusal::NoConn,
+        8 => Refusal::Closed,
+        9 => Refusal::Open,
+        10 => Refusal::Full,
+        11 => Refusal::Stale,
+        12 => Refusal::Snack,
+        other => unreachable!("no refusal has the number {other}"),
+    }
+}
+
+/// The PDU of its words.
+#[inline]
+pub fn pdu_of(w: &PduWords) -> Pdu {
+    let own = &w[8..];
+    let request = match w[0] {
+        0x00 => Request::NopOut(NopOut { ttt: own[0] as u32 }),
+        0x01 => Request::ScsiCommand(ScsiCommand {
+            final_bit: own[0] != 0,
+            read: own[1] != 0,
+            write: own[2] != 0,
+            attribute: own[3] as u8,
+            total_ahs_length: own[4] as u8,
+            expected_data_transfer_length: own[5] as u32,
+            cdb: [own[6], own[7]],
+        }),
+        0x02 => Request::TaskManagement(TaskManagement {
+            function: own[0] as u8,
+            referenced_task_tag: own[1] as u32,
+            ref_cmd_sn: own[2] as u32,
+            exp_data_sn: own[3] as u32,
+        }),
+        0x03 => Request::Login(Login {
+            transit: own[0] != 0,
+            continues: own[1] != 0,
+            csg: own[2] as u8,
+            nsg: own[3] as u8,
+            version_max: own[4] as u8,
+            version_min: own[5] as u8,
+            isid: own[6],
+            tsih: own[7] as u16,
+            cid: own[8] as u16,
+        }),
+        0x06 => Request::Logout(Logout {
+            reason: own[0] as u8,
+            cid: own[1] as u16,
+        }),
+        _ => Request::Snack(Snack {
+            kind: own[0] as u8,
+            ttt: own[1] as u32,
+            beg_run: own[2] as u32,
+            run_length: own[3] as u32,
+        }),
+    };
+    Pdu {
+        immediate: w[1] != 0,
+        cmd_sn: w[2] as u32,
+        lun: w[3],
+        itt: w[4] as u32,
+        exp_stat_sn: w[5] as u32,
+        request,
+        data: Data {
+            offset: w[6] as usize,
+            length: w[7] as usize,
+        },
+    }
+}
+
+/// The words of a response.
+#[inline]
+pub fn words_of(response: &Response) -> ResponseWords {
+    let mut words = [0; 10];
+    let mut put = |fields: &[u64]| words[..fields.len()].copy_from_slice(fields);
+    match *response {
+        Response::NopIn {
+            data_segment_length,
+            lun,
+            itt,
+            ttt,
+        } => put(&[
+            0x20,
+            data_segment_length.into(),
+            lun,
+            itt.into(),
+            ttt.into(),
+        ]),
+        Response::Scsi {
+            overflow,
+            underflow,
+            response,
+            status,
+            data_segment_length,
+            itt,
+            snack_tag,
+            residual,
+        } => put(&[
+            0x21,
+            overflow.into(),
+            underflow.into(),
+            response.into(),
+            status.into(),
+            data_segment_length.into(),
+            itt.into(),
+            snack_tag.into(),
+            residual.into(),
+        ]),
+        Response::TaskManagement { response, itt } => put(&[0x22, response.into(), itt.into()]),
+        Response::Login {
+            csg,
+            transit,
+            nsg,
+            data_segment_length,
+            isid,
+            tsih,
+            itt,
+            status_class,
+            status_detail,
+        } => put(&[
+            0x23,
+            transit.into(),
+            csg.into(),
+            nsg.into(),
+            data_segment_length.into(),
+            isid,
+            tsih.into(),
+            itt.into(),
+            status_class.into(),
+            status_detail.into(),
+        ]),
+        Response::Logout {
+            response,
+            itt,
+            time2wait,
+            time2retain,
+        } => put(&[
+            0x26,
+            response.into(),
+            itt.into(),
+            time2wait.into(),
+            time2retain.into(),
+        ]),
+        Response::Reject { reason } => put(&[0x3f, reason.into()]),
+    }
+    words
+}

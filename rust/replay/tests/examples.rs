@@ -1,0 +1,104 @@
+//! The scripts in `examples/` are answered as it is written beside them, by the library and by the model.
+
+use calls::Engine;
+use drawbevel::Drawbevel;
+use model::Model;
+use std::collections::BTreeSet;
+use std::fs;
+use std::path::PathBuf;
+
+fn examples() -> PathBuf {
+    PathBuf::from(env!("CARGO_MANIFEST_DIR")).join("../../examples")
+}
+
+fn names() -> Vec<String> {
+    let mut names = Vec::new();
+    for entry in fs::read_dir(examples()).unwrap() {
+        let name = entry.unwrap().file_name().into_string().unwrap();
+        names.extend(name.strip_suffix(".script").map(String::from));
+    }
+    names
+}
+
+fn text(name: &str, kind: &str) -> String {
+    let path = examples().join(format!("{name}.{kind}"));
+    fs::read_to_string(&path).unwrap_or_else(|error| panic!("{}: {error}", path.display()))
+}
+
+#[test]
+fn each_example_is_answered_as_expected() {
+    let names = names();
+    for needed in ["lost-segment", "session-life", "refusals"] {
+        assert!(
+            names.iter().any(|name| name == needed),
+            "{needed} is missing"
+        );
+    }
+    for name in names {
+        check(
+            &name,
+            &answers(Drawbevel::default(), &text(&name, "script")),
+        );
+        check(&name, &answers(Model::default(), &text(&name, "script")));
+    }
+}
+
+/// The answers of an engine to a script.
+fn answers<E: Engine>(engine: E, script: &str) -> String {
+    let mut answers = Vec::new();
+    script::play(engine, script.as_bytes(), &mut answers).unwrap();
+    String::from_utf8(answers).unwrap()
+}
+
+fn check(name: &str, answers: &str) {
+    let expected = text(name, "expected");
+    for (line, (said, wanted)) in answers.lines().zip(expected.lines()).enumerate() {
+        assert_eq!(said, wanted, "{name}, line {}", line + 1);
+    }
+    assert_eq!(answers.len(), expected.len(), "{name}");
+    assert!(
+        !answers.contains("bad line") && !answers.contains("TOUCHED"),
+        "{name}"
+    );
+}
+
+#[test]
+fn the_refusals_show_each_number_once() {
+    let expected = text("refusals", "expected");
+    let refused: Vec<u8> = expected
+        .lines()
+        .filter_map(|line| line.strip_prefix("refused "))
+        .map(|rest| rest.split(' ').next().unwrap().parse().unwrap())
+        .collect();
+    assert_eq!(refused, (1..=12).collect::<Vec<_>>());
+}
+
+/// In each case of the lost segment the words agree with the tickets that were handed out.
+#[test]
+fn the_lost_segment_is_kept_by_the_worker_named() {
+    let expected = text("lost-segment", "expected");
+    let cases: Vec<_> = expected.split("# Case ").skip(1).collect();
+    assert_eq!(cases.len(), 4);
+    let mut workers = BTreeSet::new();
+    for case in cases {
+        let said = case
+            .lines()
+            .find(|line| line.starts_with("# WORKER"))
+            .unwrap();
+        let worker = &said[9..10];
+        let ticket = &said[said.find("0x").unwrap()..][..6];
+        // Segment 7 is the write to block 7.
+        let segment = |line: &&str| line.starts_with("out ") && line.contains("2a0000000700");
+        let handed: Vec<_> = case.lines().filter(segment).collect();
+        assert_eq!(handed.len(), 1, "exactly one copy is handed out");
+        let shown = u32::from_str_radix(&handed[0][17..25], 16).unwrap();
+        assert_eq!(shown, u32::from_str_radix(&ticket[2..], 16).unwrap());
+        assert_eq!(worker, if shown >= 0x1000 { "1" } else { "0" });
+        workers.insert(worker);
+    }
+    assert_eq!(
+        workers.len(),
+        2,
+        "both workers kept it in one case or another"
+    );
+}

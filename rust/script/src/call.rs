@@ -1,0 +1,159 @@
+//! The calls of a script and their answers, as data.
+
+use calls::{
+    HEADER_BYTES, LoginAnswer, LogoutCounts, Numbers, Offer, Out, Parameters, Pdu, Refusal,
+    Response, Run, Window,
+};
+
+/// A call. `lent` is the length of the output that it lends.
+#[derive(Clone, Debug, PartialEq, Eq)]
+pub enum Call {
+    /// `session`
+    Session {
+        /// First command number.
+        first: u32,
+        /// Connection 0's first StatSN.
+        stat_sn: u32,
+        /// ErrorRecoveryLevel.
+        level: u8,
+    },
+    /// `offer`
+    Offer {
+        /// Connection number.
+        connection: u32,
+        /// Ticket.
+        ticket: u32,
+        /// The PDU.
+        pdu: Vec<u8>,
+    },
+    /// `take`
+    Take {
+        /// Length lent.
+        lent: usize,
+    },
+    /// `logout`
+    Logout {
+        /// Connection number.
+        connection: u32,
+        /// Reason code.
+        reason: u8,
+    },
+    /// `open`
+    Open {
+        /// Connection number.
+        connection: u32,
+        /// First StatSN.
+        stat_sn: u32,
+    },
+    /// `send`
+    Send {
+        /// Connection number.
+        connection: u32,
+        /// Ticket.
+        ticket: u32,
+        /// Length lent.
+        lent: usize,
+        /// The response.
+        response: Response,
+    },
+    /// `ack`
+    Acknowledge {
+        /// Connection number.
+        connection: u32,
+        /// ExpStatSN.
+        exp_stat_sn: u32,
+    },
+    /// `snack`
+    Snack {
+        /// Connection number.
+        connection: u32,
+        /// The PDU.
+        pdu: Vec<u8>,
+    },
+    /// `resend`
+    Resend {
+        /// Connection number.
+        connection: u32,
+        /// StatSN.
+        stat_sn: u32,
+        /// Length lent.
+        lent: usize,
+    },
+    /// `window`
+    Window,
+    /// `read`
+    Read {
+        /// The PDU.
+        pdu: Vec<u8>,
+    },
+    /// `write`
+    Write {
+        /// Length lent.
+        lent: usize,
+        /// The numbers to write.
+        numbers: Numbers,
+        /// The response.
+        response: Response,
+    },
+    /// `login-begin`
+    LoginBegin {
+        /// The target's name.
+        name: Vec<u8>,
+    },
+    /// `login`
+    Login {
+        /// The live session's handle.
+        live: u16,
+        /// The new handle.
+        new: u16,
+        /// Length lent of the gather area.
+        gather: u32,
+        /// Length lent of the text output.
+        text: u32,
+        /// The PDU.
+        pdu: Vec<u8>,
+    },
+    /// `params`
+    Params,
+}
+
+/// An answer, with the bytes that it shows.
+#[derive(Clone, Debug, PartialEq, Eq)]
+pub enum Answer {
+    /// A fresh session.
+    Session,
+    /// To an offer.
+    Offered(Offer),
+    /// To a take: nothing.
+    Nothing,
+    /// To a take: a void number.
+    Void(u32),
+    /// To a take: a command.
+    Out(Out, [u8; HEADER_BYTES]),
+    /// To a logout.
+    LoggedOut(LogoutCounts),
+    /// To an opening.
+    Opened,
+    /// To a send: StatSN and header.
+    Sent(u32, [u8; HEADER_BYTES]),
+    /// To an acknowledgement: the count released.
+    Acknowledged(u32),
+    /// To a SNACK.
+    Run(Run),
+    /// To a resend: ticket and header.
+    Resent(u32, [u8; HEADER_BYTES]),
+    /// Both window numbers.
+    Window(Window),
+    /// A PDU read.
+    Read(Pdu),
+    /// A header written.
+    Written([u8; HEADER_BYTES]),
+    /// A fresh login.
+    LoginBegun,
+    /// To a login request, with its text.
+    Login(LoginAnswer, Vec<u8>),
+    /// The parameters in force.
+    Params(Parameters),
+    /// To any call.
+    Refused(Refusal),
+}
