@@ -1,2 +1,5 @@
 pub mod Words
 pub mod Pdu
+pub mod State
+pub mod Answer
+pub mod Login

@@ -16,7 +16,7 @@ ghost use Rattle.capi.specs.Pdu.{ReadWords, readWords, writeWords, numbe
 
 // Reads a PDU: 0 and its words, or the refusal's number, which leaves pdu as it was.
 #[no_mangle]
-pub extern "C" fn drawbevel_read(input: &[u8], pdu: &mut [u64; 17]) -> u32
+pub extern "C" fn drawbevel_core_read(input: &[u8], pdu: &mut [u64; 17]) -> u32
     ensures { λ r. ⌜ _≡_ {A = ReadWords} (record { answer = r; words = now (pdu .exit) }) (readWords (readPdu limits (now (input .entry))) (now (pdu .entry))) ⌝ }
 {
     match header::read::read(input, LIMITS) {
@@ -41,7 +41,7 @@ fn write_known(out: &mut [u8], r: Response, n: Numbers) -> u32
 // Writes a response's header into the first 48 bytes of out: 0, or the refusal's number, which leaves every byte.
 // Words that are no response are FIELD, after BUFFER.
 #[no_mangle]
-pub extern "C" fn drawbevel_write(
+pub extern "C" fn drawbevel_core_write(
     out: &mut [u8],
     words: &[u64; 10],
     stat_sn: u32,

@@ -13,7 +13,7 @@ ghost use Prim.Native.Nat.{_%_, _^_};
 ghost use Rattle.capi.specs.Words.{flagWord, requestWords, pduWords, isSet, nopInOf, scsiResponseOf, taskManagementResponseOf, loginResponseOf, logoutResponseOf, rejectOf, responseOf};
 
 // 1 or 0.
-fn flag(on: bool) -> u64
+pub(crate) fn flag(on: bool) -> u64
     ensures { λ r. ⌜ r ≡ flagWord on ⌝ }
 {
     if on { 1 } else { 0 }
@@ -104,13 +104,13 @@ pub(crate) fn pdu_words(p: Pdu) -> [u64; 17]
     ]
 }
 
-fn low8(x: u64) -> u8
+pub(crate) fn low8(x: u64) -> u8
     ensures { λ r. ⌜ r ≡ x % 2 ^ 8 ⌝ }
 {
     (x % 256) as u8
 }
 
-fn low16(x: u64) -> u16
+pub(crate) fn low16(x: u64) -> u16
     ensures { λ r. ⌜ r ≡ x % 2 ^ 16 ⌝ }
 {
     (x % 65536) as u16

@@ -1,0 +1,10 @@
+use borrow.Author.Needs.{needs}
+use Rattle.capi.proofs.answers.opened.Statement.{statement}
+use Rattle.capi.proofs.answers.opened.Tie as tie
+
+returns : tie.Need-returns
+returns c = rw (c .before .before .a .given .1) (c .refused .ensures)
+
+pub opened-spec : {M : Type 1} → statement M
+opened-spec = tie.close (tie.spec
+    (λ c. search needs) (λ c κs. search needs) (λ c. search needs) returns (λ c. search needs))

@@ -1,0 +1,15 @@
+use Rattle.session.specs.Agree.{snackAnswer}
+use borrow.Author.Needs.{needs}
+use Rattle.capi.proofs.calls.drawbevel_core_snack.Statement.{statement}
+use Rattle.capi.proofs.calls.drawbevel_core_snack.Tie as tie
+
+returns : tie.Need-returns
+returns c h t hs ts = record {
+  answer = snackAnswer (c .before .snack .result);
+  did = rw (← (c .before .before .load .ensures)) (c .before .snack .ensures h t hs ts);
+  words = c .run .ensures;
+}
+
+pub drawbevel-core-snack-spec : {M : Type 1} → statement M
+drawbevel-core-snack-spec = tie.close (tie.spec
+    (λ c κs. search needs) (λ c κs. search needs) (λ c κs. search needs) returns)

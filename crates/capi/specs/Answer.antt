@@ -1,0 +1,56 @@
+-- A session's answer as four words: what came, and its values, 0 where it has none.
+use Prim.Native.Nat.{ℕ}
+use mathlib.Core.Path.{_≡_}
+use mathlib.Core.List.{List, [], _∷_}
+use lib.ListN.{replicate}
+use Rattle.window.specs.Book as W
+use Rattle.session.specs.Book.{Call, send, Answer, freshBook, refused, immediate, opened, window, sent, acknowledged, run, resent, numbers}
+use Rattle.session.specs.Agree.{State, Did, Agrees}
+use Rattle.capi.specs.declared.words.Made.{Made}
+use Rattle.capi.specs.declared.words.Made.the-variants.{Known, Unknown}
+
+-- the connection that a command came on; 4 where it has none
+abbrev pub originWord : W.Origin → ℕ
+originWord W.none = 4
+originWord (W.connection c) = c
+
+abbrev pub windowWords : W.Answer → List ℕ
+windowWords W.kept = 33 ∷ 0 ∷ 0 ∷ 0 ∷ []
+windowWords W.duplicate = 34 ∷ 0 ∷ 0 ∷ 0 ∷ []
+windowWords W.passed = 35 ∷ 0 ∷ 0 ∷ 0 ∷ []
+windowWords W.beyond = 36 ∷ 0 ∷ 0 ∷ 0 ∷ []
+windowWords W.nothing = 38 ∷ 0 ∷ 0 ∷ 0 ∷ []
+windowWords (W.command n t o) = 40 ∷ n ∷ t ∷ originWord o ∷ []
+windowWords (W.void n) = 39 ∷ n ∷ 0 ∷ 0 ∷ []
+windowWords (W.loggedOut e v) = 32 ∷ e ∷ v ∷ 0 ∷ []
+
+-- a refusal's number; 32 for what is done; 33 to 40 for kept, duplicate, passed, beyond, immediate, nothing, void and a command
+abbrev pub answerWords : Answer → List ℕ
+answerWords (refused n) = n ∷ 0 ∷ 0 ∷ 0 ∷ []
+answerWords immediate = 37 ∷ 0 ∷ 0 ∷ 0 ∷ []
+answerWords opened = 32 ∷ 0 ∷ 0 ∷ 0 ∷ []
+answerWords (window a) = windowWords a
+answerWords (sent n) = 32 ∷ n ∷ 0 ∷ 0 ∷ []
+answerWords (acknowledged n) = 32 ∷ n ∷ 0 ∷ 0 ∷ []
+answerWords (run f n) = 32 ∷ f ∷ n ∷ 0 ∷ []
+answerWords (resent t) = 32 ∷ t ∷ 0 ∷ 0 ∷ []
+answerWords (numbers e m) = 32 ∷ e ∷ m ∷ 0 ∷ []
+
+-- the contract of every call: it did as the session does, and the words are its answer's
+pub record Said (call : Call) (s : State) (w : List ℕ) (o : List ℕ) (s' : State) : Type 0 where
+  pub answer : Answer
+  pub did : Did call s answer o s'
+  pub words : w ≡ answerWords answer
+
+-- the contract of a send, by what its words are: words that are no response are FIELD, and change nothing
+unfoldable pub SaidSend : Made → (conn ticket : ℕ) → (out : List ℕ) → State → List ℕ → List ℕ → State → Type 0
+SaidSend (Known r) c t l s w o s' = Said (send c t r l) s w o s'
+SaidSend Unknown c t l s w o s' = (w ≡ answerWords (refused 3)) × (o ≡ l) × (s' ≡ s)
+
+-- a fresh session stands for the fresh book, and every byte that it keeps is 0
+pub record Fresh (first statSN level : ℕ) (s : State) : Type 0 where
+  pub agrees : Agrees s (freshBook first statSN level)
+  pub zero-headers : s .headers ≡ replicate 3072 0
+  pub zero-tickets : s .tickets ≡ replicate 64 0
+  pub zero-statuses : s .statuses ≡ replicate 6144 0
+  pub zero-status-tickets : s .status-tickets ≡ replicate 128 0

@@ -1,0 +1,232 @@
+// The session's calls for C. A session is its numbers and maps, and the arrays of headers and tickets; each call is lent what it
+// touches, and leaves its answer in four words.
+use crate::answers;
+use crate::state::load;
+use crate::state::store;
+use crate::words::Made;
+use crate::words::response;
+use header::refusal::Refusal;
+use header::response::Response;
+ghost use mathlib.Core.List.{List, []};
+ghost use Prim.Native.Nat.{ℕ};
+ghost use Rattle.session.specs.Book.{Call};
+ghost use Rattle.session.specs.Agree.{state};
+ghost use Rattle.capi.specs.State.{sessionOf};
+ghost use Rattle.capi.specs.Answer.{Said, SaidSend, Fresh};
+ghost use Rattle.capi.specs.Words.{responseOf};
+
+// Offers a whole PDU with its ticket on a connection.
+#[no_mangle]
+pub extern "C" fn drawbevel_core_offer(
+    n: &mut [u32; 15],
+    m: &mut [u64; 6],
+    headers: &mut [u8; 3072],
+    tickets: &mut [u32; 64],
+    conn: u32,
+    ticket: u32,
+    pdu: &[u8],
+    answer: &mut [u32; 4],
+)
+    ensures { λ _. ⌜ ((hs ts : List ℕ) → Said (Call.offer conn ticket (now (pdu .entry))) (state (sessionOf (now (n .entry)) (now (m .entry))) (now (headers .entry)) (now (tickets .entry)) hs ts) (now (answer .exit)) [] (state (sessionOf (now (n .exit)) (now (m .exit))) (now (headers .exit)) (now (tickets .exit)) hs ts)) ⌝ }
+{
+    let s = load(n, m);
+    let step = session::command::offer(s, conn, ticket, pdu, headers, tickets);
+    let after = step.session;
+    store(n, m, after);
+    let a = step.answer;
+    *answer = answers::offered(a);
+}
+
+// Takes the next command, its header into the first 48 bytes of out.
+#[no_mangle]
+pub extern "C" fn drawbevel_core_take(
+    n: &mut [u32; 15],
+    m: &mut [u64; 6],
+    headers: &[u8; 3072],
+    tickets: &[u32; 64],
+    out: &mut [u8],
+    answer: &mut [u32; 4],
+)
+    ensures { λ _. ⌜ ((hs ts : List ℕ) → Said (Call.take (now (out .entry))) (state (sessionOf (now (n .entry)) (now (m .entry))) (now (headers .entry)) (now (tickets .entry)) hs ts) (now (answer .exit)) (now (out .exit)) (state (sessionOf (now (n .exit)) (now (m .exit))) (now (headers .entry)) (now (tickets .entry)) hs ts)) ⌝ }
+{
+    let s = load(n, m);
+    let step = session::command::take(s, headers, tickets, out);
+    let after = step.session;
+    store(n, m, after);
+    let a = step.answer;
+    *answer = answers::taken(a);
+}
+
+// Opens a connection that isn't open, with its first StatSN.
+#[no_mangle]
+pub extern "C" fn drawbevel_core_open(
+    n: &mut [u32; 15],
+    m: &mut [u64; 6],
+    conn: u32,
+    stat_sn: u32,
+    answer: &mut [u32; 4],
+)
+    ensures { λ _. ⌜ ((h t hs ts : List ℕ) → Said (Call.opening conn «stat_sn») (state (sessionOf (now (n .entry)) (now (m .entry))) h t hs ts) (now (answer .exit)) [] (state (sessionOf (now (n .exit)) (now (m .exit))) h t hs ts)) ⌝ }
+{
+    let s = load(n, m);
+    let step = session::connection::open_connection(s, conn, stat_sn);
+    let after = step.session;
+    store(n, m, after);
+    let a = step.answer;
+    *answer = answers::opened(a);
+}
+
+// The effect of a logout on an open connection.
+#[no_mangle]
+pub extern "C" fn drawbevel_core_logout(
+    n: &mut [u32; 15],
+    m: &mut [u64; 6],
+    conn: u32,
+    reason: u8,
+    answer: &mut [u32; 4],
+)
+    ensures { λ _. ⌜ ((h t hs ts : List ℕ) → Said (Call.logout conn reason) (state (sessionOf (now (n .entry)) (now (m .entry))) h t hs ts) (now (answer .exit)) [] (state (sessionOf (now (n .exit)) (now (m .exit))) h t hs ts)) ⌝ }
+{
+    let s = load(n, m);
+    let step = session::connection::logout(s, conn, reason);
+    let after = step.session;
+    store(n, m, after);
+    let a = step.answer;
+    *answer = answers::logged_out(a);
+}
+
+// Releases the statuses before an ExpStatSN.
+#[no_mangle]
+pub extern "C" fn drawbevel_core_acknowledge(
+    n: &mut [u32; 15],
+    m: &mut [u64; 6],
+    conn: u32,
+    exp_stat_sn: u32,
+    answer: &mut [u32; 4],
+)
+    ensures { λ _. ⌜ ((h t hs ts : List ℕ) → Said (Call.acknowledge conn «exp_stat_sn») (state (sessionOf (now (n .entry)) (now (m .entry))) h t hs ts) (now (answer .exit)) [] (state (sessionOf (now (n .exit)) (now (m .exit))) h t hs ts)) ⌝ }
+{
+    let s = load(n, m);
+    let step = session::status::acknowledge(s, conn, exp_stat_sn);
+    let after = step.session;
+    store(n, m, after);
+    let a = step.answer;
+    *answer = answers::acknowledged(a);
+}
+
+// The run that a status SNACK asks for.
+#[no_mangle]
+pub extern "C" fn drawbevel_core_snack(
+    n: &[u32; 15],
+    m: &[u64; 6],
+    conn: u32,
+    pdu: &[u8],
+    answer: &mut [u32; 4],
+)
+    ensures { λ _. ⌜ ((h t hs ts : List ℕ) → Said (Call.snack conn (now (pdu .entry))) (state (sessionOf (now (n .entry)) (now (m .entry))) h t hs ts) (now (answer .exit)) [] (state (sessionOf (now (n .entry)) (now (m .entry))) h t hs ts)) ⌝ }
+{
+    let s = load(n, m);
+    let a = session::status::snack(s, conn, pdu);
+    *answer = answers::run(a);
+}
+
+// Sends a held status again, its header with the current window numbers into the first 48 bytes of out.
+#[no_mangle]
+pub extern "C" fn drawbevel_core_resend(
+    n: &[u32; 15],
+    m: &[u64; 6],
+    statuses: &[u8; 6144],
+    status_tickets: &[u32; 128],
+    conn: u32,
+    stat_sn: u32,
+    out: &mut [u8],
+    answer: &mut [u32; 4],
+)
+    ensures { λ _. ⌜ ((h t : List ℕ) → Said (Call.resend conn «stat_sn» (now (out .entry))) (state (sessionOf (now (n .entry)) (now (m .entry))) h t (now (statuses .entry)) (now («status_tickets» .entry))) (now (answer .exit)) (now (out .exit)) (state (sessionOf (now (n .entry)) (now (m .entry))) h t (now (statuses .entry)) (now («status_tickets» .entry)))) ⌝ }
+{
+    let s = load(n, m);
+    let a = session::status::resend(s, conn, stat_sn, statuses, status_tickets, out);
+    *answer = answers::resent(a);
+}
+
+// ExpCmdSN and MaxCmdSN.
+#[no_mangle]
+pub extern "C" fn drawbevel_core_window(n: &[u32; 15], m: &[u64; 6], answer: &mut [u32; 4])
+    ensures { λ _. ⌜ ((h t hs ts : List ℕ) → Said Call.windowNumbers (state (sessionOf (now (n .entry)) (now (m .entry))) h t hs ts) (now (answer .exit)) [] (state (sessionOf (now (n .entry)) (now (m .entry))) h t hs ts)) ⌝ }
+{
+    let s = load(n, m);
+    let a = session::window_numbers(s);
+    *answer = answers::numbers(a);
+}
+
+fn send_known(
+    n: &mut [u32; 15],
+    m: &mut [u64; 6],
+    statuses: &mut [u8; 6144],
+    status_tickets: &mut [u32; 128],
+    conn: u32,
+    ticket: u32,
+    r: Response,
+    out: &mut [u8],
+    answer: &mut [u32; 4],
+)
+    ensures { λ _. ⌜ ((h t : List ℕ) → Said (Call.send conn ticket r (now (out .entry))) (state (sessionOf (now (n .entry)) (now (m .entry))) h t (now (statuses .entry)) (now («status_tickets» .entry))) (now (answer .exit)) (now (out .exit)) (state (sessionOf (now (n .exit)) (now (m .exit))) h t (now (statuses .exit)) (now («status_tickets» .exit)))) ⌝ }
+{
+    let s = load(n, m);
+    let step = session::status::send(s, conn, ticket, r, out, statuses, status_tickets);
+    let after = step.session;
+    store(n, m, after);
+    let a = step.answer;
+    *answer = answers::sent(a);
+}
+
+// Sends a response, its header into the first 48 bytes of out. Words that are no response are FIELD, and change nothing.
+#[no_mangle]
+pub extern "C" fn drawbevel_core_send(
+    n: &mut [u32; 15],
+    m: &mut [u64; 6],
+    statuses: &mut [u8; 6144],
+    status_tickets: &mut [u32; 128],
+    conn: u32,
+    ticket: u32,
+    words: &[u64; 10],
+    out: &mut [u8],
+    answer: &mut [u32; 4],
+)
+    ensures { λ _. ⌜ ((h t : List ℕ) → SaidSend (responseOf (now (words .entry))) conn ticket (now (out .entry)) (state (sessionOf (now (n .entry)) (now (m .entry))) h t (now (statuses .entry)) (now («status_tickets» .entry))) (now (answer .exit)) (now (out .exit)) (state (sessionOf (now (n .exit)) (now (m .exit))) h t (now (statuses .exit)) (now («status_tickets» .exit)))) ⌝ }
+{
+    match response(words) {
+        Made::Known(r) => send_known(n, m, statuses, status_tickets, conn, ticket, r, out, answer),
+        Made::Unknown => {
+            *answer = answers::refused(Refusal::Field);
+        }
+    }
+}
+
+// A fresh session: its first command number, connection 0's first StatSN, the ErrorRecoveryLevel.
+#[no_mangle]
+pub extern "C" fn drawbevel_core_fresh(
+    n: &mut [u32; 15],
+    m: &mut [u64; 6],
+    headers: &mut [u8; 3072],
+    tickets: &mut [u32; 64],
+    statuses: &mut [u8; 6144],
+    status_tickets: &mut [u32; 128],
+    first: u32,
+    stat_sn: u32,
+    level: u8,
+)
+    ensures { λ _. ⌜ Fresh first «stat_sn» level (state (sessionOf (now (n .exit)) (now (m .exit))) (now (headers .exit)) (now (tickets .exit)) (now (statuses .exit)) (now («status_tickets» .exit))) ⌝ }
+{
+    let f = session::fresh(first, stat_sn, level);
+    let s = f.session;
+    let h = f.headers;
+    let t = f.tickets;
+    let hs = f.statuses;
+    let ts = f.status_tickets;
+    *headers = h;
+    *tickets = t;
+    *statuses = hs;
+    *status_tickets = ts;
+    store(n, m, s);
+}

@@ -1,0 +1,13 @@
+use Rattle.keys.specs.Settle.{noneSeen}
+use Prim.Native.Nat.{_-_}
+use borrow.Author.Needs.{needs}
+use Rattle.keys.proofs.parameters.Settled.fresh.Statement.{statement}
+use Rattle.keys.proofs.parameters.Settled.fresh.Tie as tie
+
+returns : tie.Need-returns
+unfolding noneSeen
+returns c = rw (← (c .standard .ensures))
+
+pub fresh-spec : {M : Type 1} → statement M
+fresh-spec = tie.close (tie.spec
+    (λ c κs. search needs) returns)

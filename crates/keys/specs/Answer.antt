@@ -1,0 +1,40 @@
+-- The answer to a judged pair, in bytes.
+use Prim.Native.Nat.{ℕ}
+use mathlib.Core.Bool.{Bool, true, false}
+use mathlib.Core.List.{List, [], _∷_, _++_}
+use Rattle.text.specs.Text.{pick, bytes}
+use Rattle.text.specs.Number.{decimal}
+use Rattle.keys.specs.declared.value.Reply.{Reply}
+use Rattle.keys.specs.declared.value.Reply.the-variants as A
+use Rattle.keys.specs.declared.value.Judgement.{Judgement}
+use Rattle.keys.specs.declared.value.Judgement.the-variants as J
+
+-- numbers in decimal
+unfoldable pub replyBytes : Reply → List ℕ
+replyBytes A.Silent = []
+replyBytes A.Reject = bytes "Reject"
+replyBytes A.NotUnderstood = bytes "NotUnderstood"
+replyBytes A.Yes = bytes "Yes"
+replyBytes A.No = bytes "No"
+replyBytes A.None = bytes "None"
+replyBytes A.Rfc3720 = bytes "RFC3720"
+replyBytes (A.Number n) = decimal 10 n
+
+abbrev pub isSilent : Reply → Bool
+isSilent A.Silent = true
+isSilent A.Reject = false
+isSilent A.NotUnderstood = false
+isSilent A.Yes = false
+isSilent A.No = false
+isSilent A.None = false
+isSilent A.Rfc3720 = false
+isSilent (A.Number n) = false
+
+-- the name, =, the reply and a zero byte; good declarations get no answer
+unfoldable pub answerText : List ℕ → Reply → List ℕ
+answerText n r = pick (isSilent r) [] (((n ++ (61 ∷ [])) ++ replyBytes r) ++ (0 ∷ []))
+
+abbrev pub saidText : List ℕ → Judgement → List ℕ
+saidText n (J.Refused status) = []
+saidText n (J.Said r) = answerText n r
+saidText n (J.Settles x r) = answerText n r

@@ -1,0 +1,4 @@
+pub mod Table
+pub mod Settle
+pub mod Judge
+pub mod Answer

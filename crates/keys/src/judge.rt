@@ -1,0 +1,209 @@
+// One pair of a block, judged: wrong stage, leading login only and twice come before its value.
+use crate::parameters::Settled;
+use crate::table::KNOWN;
+use crate::table::Kind;
+use crate::table::kind_of;
+use crate::value::Judgement;
+use crate::value::Reply;
+use crate::value::settle;
+use text::slice::lists;
+use text::slice::same_bytes;
+ghost use mathlib.Core.Path.{_≡_};
+ghost use Prim.Native.Nat.{_≤_, _<_};
+ghost use Rattle.keys.specs.Table.{kindAt};
+ghost use Rattle.keys.specs.Judge.{initiatorName, targetName, sessionType, digest, taskReporting, authMethod, judgeBy, stands, leadingOnly, judgeKey, judgeAt, marked, after};
+
+fn initiator_name(v: &[u8]) -> Judgement
+    ensures { λ r. ⌜ r ≡ initiatorName (now (v .entry)) ⌝ }
+{
+    let n = v.len();
+    if (1 <= n) & (n <= 223) {
+        Judgement::Said(Reply::Silent)
+    } else {
+        Judgement::Refused(0x0200)
+    }
+}
+
+fn target_name(ours: &[u8], v: &[u8]) -> Judgement
+    ensures { λ r. ⌜ r ≡ targetName (now (ours .entry)) (now (v .entry)) ⌝ }
+{
+    let n = v.len();
+    if (1 <= n) & (n <= 223) {
+        if same_bytes(v, ours) {
+            Judgement::Said(Reply::Silent)
+        } else {
+            Judgement::Refused(0x0203)
+        }
+    } else {
+        Judgement::Refused(0x0200)
+    }
+}
+
+fn session_type(v: &[u8]) -> Judgement
+    ensures { λ r. ⌜ r ≡ sessionType (now (v .entry)) ⌝ }
+{
+    if same_bytes(v, b"Normal") {
+        return Judgement::Said(Reply::Silent);
+    }
+    if same_bytes(v, b"Discovery") {
+        return Judgement::Refused(0x0209);
+    }
+    Judgement::Refused(0x0200)
+}
+
+fn digests(v: &[u8]) -> Judgement
+    ensures { λ r. ⌜ r ≡ digest (now (v .entry)) ⌝ }
+{
+    if lists(v, b"None") {
+        Judgement::Said(Reply::None)
+    } else {
+        Judgement::Said(Reply::Reject)
+    }
+}
+
+fn task_reporting(v: &[u8]) -> Judgement
+    ensures { λ r. ⌜ r ≡ taskReporting (now (v .entry)) ⌝ }
+{
+    if lists(v, b"RFC3720") {
+        Judgement::Said(Reply::Rfc3720)
+    } else {
+        Judgement::Said(Reply::Reject)
+    }
+}
+
+fn auth_method(v: &[u8]) -> Judgement
+    ensures { λ r. ⌜ r ≡ authMethod (now (v .entry)) ⌝ }
+{
+    if lists(v, b"None") {
+        Judgement::Said(Reply::None)
+    } else {
+        Judgement::Refused(0x0201)
+    }
+}
+
+// The value of key k, which is of this kind.
+fn judge_value(kind: Kind, k: usize, ours: &[u8], v: &[u8]) -> Judgement
+    requires { ⌜ (kind ≡ kindAt k) × (k < 28) ⌝ }
+    ensures { λ r. ⌜ r ≡ judgeBy kind k (now (ours .entry)) (now (v .entry)) ⌝ }
+{
+    match kind {
+        Kind::Negotiated => settle(k, v),
+        Kind::Declared => settle(k, v),
+        Kind::Digest => digests(v),
+        Kind::TaskReporting => task_reporting(v),
+        Kind::AuthMethod => auth_method(v),
+        Kind::InitiatorName => initiator_name(v),
+        Kind::TargetName => target_name(ours, v),
+        Kind::SessionType => session_type(v),
+        Kind::InitiatorAlias => Judgement::Said(Reply::Silent),
+        Kind::Marker => Judgement::Said(Reply::Reject),
+        Kind::Refused => Judgement::Refused(0x0200),
+    }
+}
+
+fn may_stand(kind: Kind, stage: u8) -> bool
+    ensures { λ r. ⌜ r ≡ stands kind stage ⌝ }
+{
+    match kind {
+        Kind::Negotiated => stage == 1,
+        Kind::Declared => stage == 1,
+        Kind::Digest => stage == 1,
+        Kind::TaskReporting => stage == 1,
+        Kind::AuthMethod => stage == 0,
+        Kind::InitiatorName => true,
+        Kind::TargetName => true,
+        Kind::SessionType => true,
+        Kind::InitiatorAlias => true,
+        Kind::Marker => true,
+        Kind::Refused => true,
+    }
+}
+
+fn only_leading(kind: Kind) -> bool
+    ensures { λ r. ⌜ r ≡ leadingOnly kind ⌝ }
+{
+    match kind {
+        Kind::Negotiated => true,
+        Kind::Declared => false,
+        Kind::Digest => false,
+        Kind::TaskReporting => true,
+        Kind::AuthMethod => false,
+        Kind::InitiatorName => false,
+        Kind::TargetName => false,
+        Kind::SessionType => false,
+        Kind::InitiatorAlias => false,
+        Kind::Marker => false,
+        Kind::Refused => false,
+    }
+}
+
+// A known key, seen before in this login or not.
+fn judge_key(seen: bool, stage: u8, leading: bool, ours: &[u8], k: usize, v: &[u8]) -> Judgement
+    requires { ⌜ k < 28 ⌝ }
+    ensures { λ r. ⌜ r ≡ judgeKey seen stage leading (now (ours .entry)) k (now (v .entry)) ⌝ }
+{
+    let kind = kind_of(k);
+    if !may_stand(kind, stage) {
+        return Judgement::Refused(0x0200);
+    }
+    if only_leading(kind) & !leading {
+        return Judgement::Refused(0x0200);
+    }
+    if seen {
+        return Judgement::Refused(0x0200);
+    }
+    judge_value(kind, k, ours, v)
+}
+
+// A pair whose name is key k's, KNOWN for a name that is not known.
+pub fn judge_pair(
+    s: Settled,
+    stage: u8,
+    leading: bool,
+    ours: &[u8],
+    k: usize,
+    v: &[u8],
+) -> Judgement
+    requires { ⌜ k ≤ 28 ⌝ }
+    ensures { λ r. ⌜ r ≡ judgeAt s stage leading (now (ours .entry)) k (now (v .entry)) ⌝ }
+{
+    if k == KNOWN {
+        return Judgement::Said(Reply::NotUnderstood);
+    }
+    let seen = s.seen[k];
+    judge_key(seen, stage, leading, ours, k, v)
+}
+
+// Key k came, and was not refused.
+fn mark(s: Settled, k: usize) -> Settled
+    requires { ⌜ k < 28 ⌝ }
+    ensures { λ r. ⌜ r ≡ marked s k ⌝ }
+{
+    let mut t = s;
+    t.seen[k] = true;
+    t
+}
+
+// What is settled after a pair was judged.
+pub fn settled_after(s: Settled, k: usize, j: Judgement) -> Settled
+    requires { ⌜ k ≤ 28 ⌝ }
+    ensures { λ r. ⌜ r ≡ after s k j ⌝ }
+{
+    if k == KNOWN {
+        return s;
+    }
+    let t = mark(s, k);
+    match j {
+        Judgement::Refused(_) => s,
+        Judgement::Said(_) => t,
+        Judgement::Settles(n, _) => {
+            let p = t.parameters;
+            let q = p.with(k, n);
+            let seen = t.seen;
+            Settled {
+                seen,
+                parameters: q,
+            }
+        }
+    }
+}

@@ -1,0 +1,172 @@
+// The known keys: one table of names, and one of the twelve keys that have a rule, a range and a standard value.
+use crate::parameters::Parameters;
+use text::slice::same_bytes;
+ghost use mathlib.Core.Path.{_≡_};
+ghost use Prim.Native.Nat.{_≤_, _<_};
+ghost use Rattle.text.specs.Text.{same};
+ghost use Rattle.keys.specs.Table.{nameAt, keyOf, kindAt, rowAt};
+
+// What a known key is, in the order of the rules that judge it.
+pub enum Kind {
+    // A key of the table, negotiated.
+    Negotiated,
+    // MaxRecvDataSegmentLength.
+    Declared,
+    Digest,
+    TaskReporting,
+    AuthMethod,
+    InitiatorName,
+    TargetName,
+    SessionType,
+    InitiatorAlias,
+    // Known, and always answered Reject.
+    Marker,
+    // Known, and always refused: an initiator does not send it in a login.
+    Refused,
+}
+
+// How the offer and our own value settle a key of the table.
+pub enum Rule {
+    Least,
+    Greatest,
+    Or,
+    And,
+    Declared,
+}
+
+// A key of the table; a boolean's values are Yes 1 and No 0.
+pub struct Row {
+    pub rule: Rule,
+    pub low: u32,
+    pub high: u32,
+    pub standard: u32,
+    pub ours: u32,
+}
+
+pub const KNOWN: usize = 28;
+
+const NAMES: [u8; 375] =
+    *b"MaxConnectionsMaxOutstandingR2TInitialR2TDataPDUInOrderDataSequenceInOrderImmediateDataMaxRecvDataSegmentLengthMaxBurstLengthFirstBurstLengthDefaultTime2WaitDefaultTime2RetainErrorRecoveryLevelHeaderDigestDataDigestTaskReportingAuthMethodInitiatorNameTargetNameSessionTypeInitiatorAliasIFMarkerOFMarkerIFMarkIntOFMarkIntTargetAliasTargetAddressTargetPortalGroupTagSendTargets";
+
+// Name k is bytes STARTS[k] up to STARTS[k + 1] of NAMES.
+const STARTS: [usize; 29] = [
+    0,
+    14,
+    31,
+    41,
+    55,
+    74,
+    87,
+    111,
+    125,
+    141,
+    157,
+    175,
+    193,
+    205,
+    215,
+    228,
+    238,
+    251,
+    261,
+    272,
+    286,
+    294,
+    302,
+    311,
+    320,
+    331,
+    344,
+    364,
+    375,
+];
+
+// The table of twelve keys, in the order of their names; its standard values and ours are those of Parameters.
+const RULES: [Rule; 12] = [
+    Rule::Least,
+    Rule::Least,
+    Rule::Or,
+    Rule::Or,
+    Rule::Or,
+    Rule::And,
+    Rule::Declared,
+    Rule::Least,
+    Rule::Least,
+    Rule::Greatest,
+    Rule::Least,
+    Rule::Least,
+];
+
+const LOWS: [u32; 12] = [1, 1, 0, 0, 0, 0, 512, 512, 512, 0, 0, 0];
+
+const HIGHS: [u32; 12] = [
+    65535,
+    65535,
+    1,
+    1,
+    1,
+    1,
+    16777215,
+    16777215,
+    16777215,
+    3600,
+    3600,
+    2,
+];
+
+pub fn row_of(k: usize) -> Row
+    requires { ⌜ k < 12 ⌝ }
+    ensures { λ r. ⌜ r ≡ rowAt k ⌝ }
+{
+    let rule = RULES[k];
+    Row {
+        rule,
+        low: LOWS[k],
+        high: HIGHS[k],
+        standard: Parameters::STANDARD[k],
+        ours: Parameters::OURS[k],
+    }
+}
+
+pub fn kind_of(k: usize) -> Kind
+    requires { ⌜ k < 28 ⌝ }
+    ensures { λ r. ⌜ r ≡ kindAt k ⌝ }
+{
+    match k {
+        6 => Kind::Declared,
+        0..=11 => Kind::Negotiated,
+        12 | 13 => Kind::Digest,
+        14 => Kind::TaskReporting,
+        15 => Kind::AuthMethod,
+        16 => Kind::InitiatorName,
+        17 => Kind::TargetName,
+        18 => Kind::SessionType,
+        19 => Kind::InitiatorAlias,
+        20..=23 => Kind::Marker,
+        _ => Kind::Refused,
+    }
+}
+
+// The name is that of key k.
+fn is_name(name: &[u8], k: usize) -> bool
+    requires { ⌜ k < 28 ⌝ }
+    ensures { λ r. ⌜ r ≡ same (now (name .entry)) (nameAt k) ⌝ }
+{
+    let a = STARTS[k];
+    let e = STARTS[k + 1];
+    same_bytes(name, &NAMES[a..e])
+}
+
+// The key that bears this name, KNOWN where none does.
+pub fn key_of(name: &[u8]) -> usize
+    ensures { λ r. ⌜ (r ≡ keyOf (now (name .entry))) × (r ≤ 28) ⌝ }
+{
+    let mut k = 0;
+    while k < KNOWN {
+        if is_name(name, k) {
+            return k;
+        }
+        k += 1;
+    }
+    k
+}

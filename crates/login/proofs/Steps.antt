@@ -1,0 +1,46 @@
+-- The table of permitted steps in the code: one test, computed over both stages.
+use mathlib.Core.Path.{_≡_, refl}
+use mathlib.Core.Bool.{Bool, true, false}
+use mathlib.Core.List.{List, [], _∷_}
+use Prim.Native.Nat.{ℕ, _+_, _*_, _<_, _≤_}
+use native.Mathlib.Omega.{arith}
+use borrow.Author.Tests.{ne-eqb}
+use lib.ListN.{getD}
+use Rattle.text.proofs.Laws.{below, at, &&-false}
+use Rattle.login.specs.Login.{permitted}
+
+abbrev pub steps : List Bool
+steps = false ∷ true ∷ false ∷ true ∷ false ∷ false ∷ false ∷ true ∷ false ∷ false ∷ false ∷ false ∷ false ∷ false ∷ false ∷ false ∷ true ∷ true ∷ false ∷ false ∷ []
+
+abbrev iff : Bool → Bool → Bool
+iff true b = b
+iff false true = false
+iff false false = true
+
+iff-eq : (a b : Bool) → iff a b ≡ true → a ≡ b
+iff-eq true true e = refl
+iff-eq true false e = cc
+iff-eq false true e = cc
+iff-eq false false e = refl
+
+right : ℕ → ℕ → Bool
+right a b = iff (getD steps (a * 4 + b) false) (permitted a b)
+
+row : ℕ → Bool
+row a = below (right a) 4
+
+table : below row 5 ≡ true
+unfolding row right permitted
+table = refl
+
+pub step-right : (a b : ℕ) → a < 5 → b < 4 → getD steps (a * 4 + b) false ≡ permitted a b
+unfolding right row
+step-right a b p q = iff-eq (getD steps (a * 4 + b) false) (permitted a b) (at (right a) 4 (at row 5 table a p) b q)
+
+pub from-none : (a b : ℕ) → 5 ≤ a → permitted a b ≡ false
+unfolding permitted
+from-none a b h = rw (ne-eqb a 4 (λ e. omega arith), ne-eqb a 0 (λ e. omega arith), ne-eqb a 1 (λ e. omega arith))
+
+pub to-none : (a b : ℕ) → 4 ≤ b → permitted a b ≡ false
+unfolding permitted
+to-none a b h = simp (ne-eqb b 0 (λ e. omega arith), ne-eqb b 1 (λ e. omega arith), ne-eqb b 3 (λ e. omega arith), &&-false)

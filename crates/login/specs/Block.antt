@@ -1,0 +1,70 @@
+-- The pairs of a block, judged left to right: the first refusal decides.
+use Prim.Native.Nat.{ℕ, _+_, _≤_, _<_}
+use mathlib.Core.Bool.{Bool}
+use mathlib.Core.Path.{_≡_}
+use mathlib.Core.List.{List, [], _∷_, _++_}
+use lib.ListN.{length, take}
+use Rattle.text.specs.Text.{Appended}
+use Rattle.text.specs.Block.{Pair, nameIn, valueIn}
+use Rattle.keys.specs.Table.{keyOf}
+use Rattle.keys.specs.Judge.{judgeAt, after}
+use Rattle.keys.specs.Answer.{saidText}
+use Rattle.keys.specs.declared.value.Judgement.{Judgement}
+use Rattle.keys.specs.declared.value.Judgement.the-variants as J
+use Rattle.keys.specs.declared.parameters.Settled.{Settled}
+use Rattle.login.specs.declared.block.Stop.{Stop}
+use Rattle.login.specs.declared.block.Stop.the-variants.{Goes, Stops}
+use Rattle.login.specs.declared.block.First.{First}
+use Rattle.login.specs.declared.block.Verdict.{Verdict}
+use Rattle.login.specs.declared.block.Verdict.the-variants as W
+
+-- a judged block: a status refuses it, or this is settled and answered
+pub data Result : Type 0 where
+  stopped : ℕ → Result
+  went : Settled → List ℕ → Result
+
+abbrev pub stopOf : Judgement → Stop
+stopOf (J.Refused status) = Stops status
+stopOf (J.Said r) = Goes
+stopOf (J.Settles n r) = Goes
+
+abbrev pub onward : Stop → Result → Result
+onward (Stops status) r = stopped status
+onward Goes r = r
+
+-- what is said of a pair, after what is settled so far
+abbrev pub judgePair : ℕ → Bool → List ℕ → Settled → Pair → Judgement
+judgePair stage leading ours s p = judgeAt s stage leading ours (keyOf (p .name)) (p .value)
+
+-- the pairs, after what is settled and the answer t so far; answers stand in offer order
+unfoldable pub judge : ℕ → Bool → List ℕ → Settled → List ℕ → List Pair → Result
+judge stage leading ours s t [] = went s t
+judge stage leading ours s t (p ∷ ps) =
+    onward (stopOf (judgePair stage leading ours s p))
+    (judge stage leading ours (after s (keyOf (p .name)) (judgePair stage leading ours s p)) (t ++ saidText (p .name) (judgePair stage leading ours s p)) ps)
+
+-- what is said of the first pair of a text
+abbrev pub judgeFirst : ℕ → Bool → List ℕ → Settled → List ℕ → Judgement
+judgeFirst stage leading ours s rest = judgeAt s stage leading ours (keyOf (nameIn rest)) (valueIn rest)
+
+pub record FirstOf (s : Settled) (stage : ℕ) (leading : Bool) (ours rest old : List ℕ) (at : ℕ) (r : First) (new : List ℕ) : Type 0 where
+  pub stops : r .stop ≡ stopOf (judgeFirst stage leading ours s rest)
+  pub settles : r .settled ≡ after s (keyOf (nameIn rest)) (judgeFirst stage leading ours s rest)
+  pub text : Appended old at (saidText (nameIn rest) (judgeFirst stage leading ours s rest)) new (r .count)
+  pub few : r .count ≤ at + 78
+  pub ended : r .end ≡ length (nameIn rest) + 1 + length (valueIn rest)
+  pub inside : r .end < length rest
+
+-- the code's answer on a block, as a result: the status, or what is settled and the first n bytes of the output
+abbrev pub resultOf : Verdict → Settled → List ℕ → Result
+resultOf (W.Refused s) t out = stopped s
+resultOf (W.Answered n) t out = went t (take n out)
+
+-- how many bytes are answered
+abbrev pub countOf : Verdict → ℕ
+countOf (W.Refused s) = 0
+countOf (W.Answered n) = n
+
+pub record JudgedAs (r : Result) (t : Settled) (v : Verdict) (out : List ℕ) : Type 0 where
+  pub result : resultOf v t out ≡ r
+  pub few : countOf v ≤ length out

@@ -1,0 +1,4 @@
+pub mod Block
+pub mod Login
+pub mod Code
+pub mod Demand

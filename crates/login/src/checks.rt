@@ -1,0 +1,90 @@
+// The checks of a Login request, in their order.
+use crate::state::State;
+use header::request::Login;
+ghost use mathlib.Core.Path.{_≡_};
+ghost use Prim.Native.Nat.{_<_, _^_};
+ghost use Rattle.login.specs.Login.{permitted, differs, statusOf};
+
+// The longest text that is gathered.
+pub const MAX_TEXT: usize = 8192;
+
+// No stage yet.
+const START: u8 = 4;
+
+// The permitted steps: a row for each of the stages 0 to 3 and for the start, a column for the stage that is stepped to.
+const STEPS: [bool; 20] = [
+    false,
+    true,
+    false,
+    true,
+    false,
+    false,
+    false,
+    true,
+    false,
+    false,
+    false,
+    false,
+    false,
+    false,
+    false,
+    false,
+    true,
+    true,
+    false,
+    false,
+];
+
+fn step_permitted(from: u8, to: u8) -> bool
+    ensures { λ r. ⌜ r ≡ permitted from to ⌝ }
+{
+    if from < 5 {
+        if to < 4 {
+            let i = from as usize * 4 + to as usize;
+            STEPS[i]
+        } else {
+            false
+        }
+    } else {
+        false
+    }
+}
+
+// ISID, TSIH or CID differ from those of the first request.
+fn is_other(l: State, q: Login) -> bool
+    ensures { λ r. ⌜ r ≡ differs l q ⌝ }
+{
+    (q.isid != l.isid) | (q.tsih != l.tsih) | (q.cid != l.cid)
+}
+
+// The status of the first broken rule, 0 if none is broken; n is the length of the request's data.
+pub fn status_of(l: State, q: Login, n: usize, live: u16) -> u16
+    requires { ⌜ n < 2 ^ 63 ⌝ }
+    ensures { λ r. ⌜ r ≡ statusOf l q n live ⌝ }
+{
+    if 0 < q.version_min {
+        return 0x0205;
+    }
+    if (q.tsih != 0) & (q.tsih != live) {
+        return 0x020a;
+    }
+    if l.begun & is_other(l, q) {
+        return 0x0200;
+    }
+    if q.continues & q.transit {
+        return 0x0200;
+    }
+    if l.begun & (q.csg != l.stage) {
+        return 0x0200;
+    }
+    if !l.begun & !step_permitted(START, q.csg) {
+        return 0x0200;
+    }
+    if q.transit & !step_permitted(q.csg, q.nsg) {
+        return 0x0200;
+    }
+    if MAX_TEXT < l.gathered as usize + n {
+        return 0x0200;
+    }
+    0
+}

@@ -1,0 +1,121 @@
+// Text that comes in pieces: gathered while C is set, joined to the last piece, and judged as one block.
+use crate::answer::judge_text;
+use crate::state::Accepted;
+use crate::state::Answer;
+use crate::state::State;
+use crate::state::Step;
+use crate::state::is_refused;
+use header::request::Login;
+use text::slice::append;
+ghost use mathlib.Core.Path.{_≡_};
+ghost use Prim.Native.Nat.{_+_, _≤_};
+ghost use lib.ListN.{length, take};
+ghost use Rattle.login.specs.Login.{blockOf, joined, answerOf, Outcome, judgeStep};
+ghost use Rattle.login.specs.Code.{gatheredStep, Joined};
+
+// The block to judge: the request's own data if nothing was gathered, and the gathered bytes otherwise.
+pub fn block_of<'a>(piece: &'a [u8], gather: &'a [u8], gathered: usize) -> &'a [u8]
+    requires { ⌜ gathered ≤ length (now gather) ⌝ }
+    ensures { λ r. ⌜ now r ≡ blockOf (now (piece .entry)) (now (gather .entry)) gathered ⌝ }
+{
+    if gathered == 0 {
+        piece
+    } else {
+        &gather[..gathered]
+    }
+}
+
+// With C set n bytes are gathered now, and the answer is empty.
+pub fn gathered_step(l: State, q: Login, n: usize) -> Step
+    requires { ⌜ n ≤ 8192 ⌝ }
+    ensures { λ r. ⌜ r ≡ gatheredStep l q n ⌝ }
+{
+    let s = l.settled;
+    let m = State {
+        over: false,
+        begun: true,
+        judged: l.judged,
+        stage: q.csg,
+        isid: q.isid,
+        tsih: q.tsih,
+        cid: q.cid,
+        gathered: n as u16,
+        settled: s,
+    };
+    let a = Accepted {
+        stage: q.csg,
+        transit: false,
+        csg: q.csg,
+        nsg: 0,
+        tsih: q.tsih,
+        length: 0,
+    };
+    Step {
+        state: m,
+        answer: Answer::Accepted(a),
+    }
+}
+
+// The piece joined to the gathered bytes; what stood in its place is kept, for a refusal leaves the area as it was.
+fn join(gather: &mut [u8], at: usize, piece: &[u8], kept: &mut [u8]) -> usize
+    requires { ⌜ (at + length (now piece) ≤ length (now gather)) × (length (now piece) ≤ length (now kept)) ⌝ }
+    ensures { λ r. ⌜ Joined (now (gather .entry)) at (now (piece .entry)) (now (gather .exit)) (now (kept .exit)) r ⌝ }
+{
+    let n = piece.len();
+    let end = at + n;
+    append(kept, 0, &gather[at..end]);
+    append(gather, at, piece)
+}
+
+// What was kept is put back.
+fn undo(gather: &mut [u8], at: usize, n: usize, kept: &[u8])
+    requires { ⌜ (at + n ≤ length (now gather)) × (n ≤ length (now kept)) ⌝ }
+    ensures { λ _. ⌜ now (gather .exit) ≡ joined (now (gather .entry)) at (take n (now (kept .entry))) ⌝ }
+{
+    append(gather, at, &kept[..n]);
+}
+
+// The last piece after gathered bytes.
+fn judge_gathered(
+    l: State,
+    q: Login,
+    piece: &[u8],
+    new: u16,
+    ours: &[u8],
+    gather: &mut [u8],
+    text: &mut [u8],
+) -> Step
+    requires { ⌜ (8192 ≤ length (now gather)) × (8192 ≤ length (now text)) × (l .gathered + length (now piece) ≤ 8192) × (l .gathered ≡ 0 → ⊥) ⌝ }
+    ensures { λ r. ⌜ _≡_ {A = Outcome} (record { state = r .state; answer = answerOf (r .answer) (now (text .exit)); gather = now (gather .exit); text = now (text .exit) }) (judgeStep l q new (now (ours .entry)) (now (piece .entry)) (now (gather .entry)) (now (text .entry))) ⌝ }
+{
+    let at = l.gathered as usize;
+    let mut kept = [0u8; 8192];
+    let total = join(gather, at, piece, &mut kept);
+    let r = judge_text(l, q, new, ours, block_of(piece, gather, total), text);
+    let a = r.answer;
+    if is_refused(a) {
+        undo(gather, at, piece.len(), &kept);
+        return r;
+    }
+    r
+}
+
+// A request without C: its block is judged and answered.
+pub fn judge_request(
+    l: State,
+    q: Login,
+    piece: &[u8],
+    new: u16,
+    ours: &[u8],
+    gather: &mut [u8],
+    text: &mut [u8],
+) -> Step
+    requires { ⌜ (8192 ≤ length (now gather)) × (8192 ≤ length (now text)) × (l .gathered + length (now piece) ≤ 8192) ⌝ }
+    ensures { λ r. ⌜ _≡_ {A = Outcome} (record { state = r .state; answer = answerOf (r .answer) (now (text .exit)); gather = now (gather .exit); text = now (text .exit) }) (judgeStep l q new (now (ours .entry)) (now (piece .entry)) (now (gather .entry)) (now (text .entry))) ⌝ }
+{
+    let at = l.gathered as usize;
+    if at == 0 {
+        return judge_text(l, q, new, ours, block_of(piece, gather, at), text);
+    }
+    judge_gathered(l, q, piece, new, ours, gather, text)
+}

@@ -1,0 +1,117 @@
+// One login request, whole: the one entry of the login phase.
+use crate::answer::end;
+use crate::checks::MAX_TEXT;
+use crate::checks::status_of;
+use crate::gather::gathered_step;
+use crate::gather::judge_request;
+use crate::state::Answer;
+use crate::state::State;
+use crate::state::Step;
+use header::read::data_of;
+use header::read::read;
+use header::refusal::Refusal;
+use header::request::LIMITS;
+use header::request::Login;
+use header::request::ReadAnswer;
+use header::request::Request;
+use text::slice::append;
+ghost use mathlib.Core.Path.{_≡_};
+ghost use Prim.Native.Nat.{_≤_};
+ghost use lib.ListN.{length};
+ghost use Rattle.login.specs.Login.{answerOf, Outcome, requestStep, kindStep, loginStep};
+ghost use Rattle.login.specs.Code.{refuseStep};
+
+// A refusal that leaves the login as it was.
+fn refuse(l: State, why: Refusal) -> Step
+    ensures { λ r. ⌜ r ≡ refuseStep l why ⌝ }
+{
+    Step {
+        state: l,
+        answer: Answer::Refused(why),
+    }
+}
+
+// A Login request with this data.
+fn request_step(
+    l: State,
+    q: Login,
+    piece: &[u8],
+    live: u16,
+    new: u16,
+    ours: &[u8],
+    gather: &mut [u8],
+    text: &mut [u8],
+) -> Step
+    requires { ⌜ (8192 ≤ length (now gather)) × (8192 ≤ length (now text)) ⌝ }
+    ensures { λ r. ⌜ _≡_ {A = Outcome} (record { state = r .state; answer = answerOf (r .answer) (now (text .exit)); gather = now (gather .exit); text = now (text .exit) }) (requestStep l q (now (piece .entry)) live new (now (ours .entry)) (now (gather .entry)) (now (text .entry))) ⌝ }
+{
+    if new == 0 {
+        return refuse(l, Refusal::Field);
+    }
+    let s = status_of(l, q, piece.len(), live);
+    if s != 0 {
+        return end(l, s);
+    }
+    if q.continues {
+        let at = l.gathered as usize;
+        let n = append(gather, at, piece);
+        return gathered_step(l, q, n);
+    }
+    judge_request(l, q, piece, new, ours, gather, text)
+}
+
+// A request that was read.
+fn kind_step(
+    l: State,
+    r: Request,
+    piece: &[u8],
+    live: u16,
+    new: u16,
+    ours: &[u8],
+    gather: &mut [u8],
+    text: &mut [u8],
+) -> Step
+    requires { ⌜ (8192 ≤ length (now gather)) × (8192 ≤ length (now text)) ⌝ }
+    ensures { λ s. ⌜ _≡_ {A = Outcome} (record { state = s .state; answer = answerOf (s .answer) (now (text .exit)); gather = now (gather .exit); text = now (text .exit) }) (kindStep r l (now (piece .entry)) live new (now (ours .entry)) (now (gather .entry)) (now (text .entry))) ⌝ }
+{
+    match r {
+        Request::Login(q) => request_step(l, q, piece, live, new, ours, gather, text),
+        Request::NopOut(_) => refuse(l, Refusal::Field),
+        Request::ScsiCommand(_) => refuse(l, Refusal::Field),
+        Request::TaskManagement(_) => refuse(l, Refusal::Field),
+        Request::Logout(_) => refuse(l, Refusal::Field),
+        Request::Snack(_) => refuse(l, Refusal::Field),
+    }
+}
+
+// One request of a login: `pdu` whole, the handle of the live session (0 for none), the new handle, our target name, the gather area
+// that this login uses, and the text output.
+pub fn login_request(
+    l: State,
+    pdu: &[u8],
+    live: u16,
+    new: u16,
+    ours: &[u8],
+    gather: &mut [u8],
+    text: &mut [u8],
+) -> Step
+    ensures { λ r. ⌜ _≡_ {A = Outcome} (record { state = r .state; answer = answerOf (r .answer) (now (text .exit)); gather = now (gather .exit); text = now (text .exit) }) (loginStep l (now (pdu .entry)) live new (now (ours .entry)) (now (gather .entry)) (now (text .entry))) ⌝ }
+{
+    if gather.len() < MAX_TEXT {
+        return refuse(l, Refusal::Buffer);
+    }
+    if text.len() < MAX_TEXT {
+        return refuse(l, Refusal::Buffer);
+    }
+    if l.over {
+        return refuse(l, Refusal::Closed);
+    }
+    let read_pdu = read(pdu, LIMITS);
+    match read_pdu {
+        ReadAnswer::Refused(why) => refuse(l, why),
+        ReadAnswer::Got(p) => {
+            let r = p.request;
+            kind_step(l, r, data_of(pdu, p), live, new, ours, gather, text)
+        }
+    }
+}

@@ -1,0 +1,347 @@
+-- What one turn of a loop over a text does to the definitions that read it from the front.
+use mathlib.Core.Path.{_≡_, refl, sym, ap, _∙_, ap₂}
+use mathlib.Core.Bool.{Bool, true, false, not, _&&_, _||_}
+use mathlib.Core.List.{List, [], _∷_, _++_, append-assoc}
+use Prim.Native.Nat.{ℕ, zero, suc, _+_, _-_, _*_, _/_, _%_, _^_, _<_, _≤_}
+use native.Mathlib.Numerals.{add-one}
+use native.Mathlib.Omega.{arith}
+use native.Mathlib.Nat.{not-suc-le-zero, le-of-suc-le-suc, mul-le-mul-left, div-lt-iff-lt-mul, le-div-iff-mul-le, add-assoc, zero-add}
+use borrow.Author.Tests.{eq-eqb, ne-eqb, eqb-true, eqb-false, lt-ltb, le-ltb, le-leb, leb-true, ltb-true}
+use lib.ListN.{length, getD, take, drop, set, drop-of-length-le, length-drop, length-set, length-append, take-append-drop}
+use lib.Seq.{drop-cons, drop-drop, take-all, getD-set-same, drop-set-lt}
+use lib.Dec.{eqb, ltb, leb, leb·suc-suc}
+use Rattle.text.specs.Text.{pick, before, after, has, same, all, items, onto, listed, Appended}
+use Rattle.text.specs.Block.{within, nameIn, valueIn, restOf, goodFirst, goodName, formed, empty, EndsOf}
+use Rattle.text.specs.Number.{worth, digitOf, isDigit, numberIn, decimal}
+use Rattle.text.specs.declared.number.Number.the-variants.{Value, Bad}
+
+pub drop-step : (s : List ℕ) (i : ℕ) → i < length s → drop i s ≡ getD s i 0 ∷ drop (i + 1) s
+drop-step s i h = rw (add-one, drop-cons s i 0)
+
+pub drop-end : (s : List ℕ) (i : ℕ) → length s ≤ i → drop i s ≡ []
+drop-end s i h = drop-of-length-le s h
+
+module _ (x : ℕ) (s : List ℕ) (i : ℕ) where
+  pub before-hit : i < length s → getD s i 0 ≡ x → length (before x (drop i s)) ≡ 0
+  unfolding before
+  before-hit h e = rw (drop-step s i h, eq-eqb (getD s i 0) x e)
+
+  pub before-miss : i < length s → (getD s i 0 ≡ x → ⊥) → length (before x (drop i s)) ≡ length (before x (drop (i + 1) s)) + 1
+  unfolding before
+  before-miss h n = rw (drop-step s i h, ne-eqb (getD s i 0) x n) (sym (add-one _))
+
+  pub before-end : length s ≤ i → length (before x (drop i s)) ≡ 0
+  unfolding before
+  before-end h = rw (drop-end s i h)
+
+module _ (f : ℕ → Bool) (s : List ℕ) (i : ℕ) where
+  pub all-step : i < length s → f (getD s i 0) ≡ true → all f (drop i s) ≡ all f (drop (i + 1) s)
+  unfolding all
+  all-step h e = rw (drop-step s i h, e)
+
+  pub all-miss : i < length s → f (getD s i 0) ≡ false → all f (drop i s) ≡ false
+  unfolding all
+  all-miss h e = rw (drop-step s i h, e)
+
+  pub all-end : length s ≤ i → all f (drop i s) ≡ true
+  unfolding all
+  all-end h = rw (drop-end s i h)
+
+module _ (a b : List ℕ) (i : ℕ) where
+  pub same-step : i < length a → i < length b → getD a i 0 ≡ getD b i 0 → same (drop i a) (drop i b) ≡ same (drop (i + 1) a) (drop (i + 1) b)
+  unfolding same
+  same-step p q e = rw (drop-step a i p, drop-step b i q, eq-eqb (getD a i 0) (getD b i 0) e)
+
+  pub same-miss : i < length a → i < length b → (getD a i 0 ≡ getD b i 0 → ⊥) → same (drop i a) (drop i b) ≡ false
+  unfolding same
+  same-miss p q n = rw (drop-step a i p, drop-step b i q, ne-eqb (getD a i 0) (getD b i 0) n)
+
+  pub same-end : length a ≤ i → length b ≤ i → same (drop i a) (drop i b) ≡ true
+  unfolding same
+  same-end p q = rw (drop-end a i p, drop-end b i q)
+
+pub &&-true : (a : Bool) → (a && true) ≡ a
+&&-true true = refl
+&&-true false = refl
+
+pub &&-false : (a : Bool) → (a && false) ≡ false
+&&-false true = refl
+&&-false false = refl
+
+pub same-lengths : (a b : List ℕ) → (length a ≡ length b → ⊥) → same a b ≡ false
+unfolding same
+same-lengths [] [] n = absurd (n refl)
+same-lengths [] (y ∷ b) n = refl
+same-lengths (x ∷ a) [] n = refl
+same-lengths (x ∷ a) (y ∷ b) n = rw (same-lengths a b (λ e. n (ap suc e))) (&&-false (eqb x y))
+
+pub worth-step : (base v : ℕ) (s : List ℕ) (i : ℕ) → i < length s → worth base v (drop i s) ≡ worth base (v * base + digitOf (getD s i 0)) (drop (i + 1) s)
+unfolding worth
+worth-step base v s i h = rw (drop-step s i h)
+
+pub worth-end : (base v : ℕ) (s : List ℕ) (i : ℕ) → length s ≤ i → worth base v (drop i s) ≡ v
+unfolding worth
+worth-end base v s i h = rw (drop-end s i h)
+
+-- digits only add to what was read
+pub worth-grows : (base v : ℕ) (s : List ℕ) → 1 ≤ base → v ≤ worth base v s
+unfolding worth
+worth-grows base v [] h = omega arith
+worth-grows base v (b ∷ s) h =
+    let m : v * 1 ≤ v * base = mul-le-mul-left v h in
+    omega (arith, worth-grows base (v * base + digitOf b) s h, m)
+
+pub &&-left : (a b : Bool) → (a && b) ≡ true → a ≡ true
+&&-left true b e = refl
+&&-left false b e = e
+
+pub within-low : (a b x : ℕ) → within a b x ≡ true → a ≤ x
+within-low a b x e = leb-true a x (&&-left (leb a x) (leb x b) e)
+
+module _ (base : ℕ) (s : List ℕ) where
+  pub number-other : all (isDigit base) s ≡ false → numberIn base s ≡ Bad
+  unfolding numberIn
+  number-other e = rw (e, &&-false)
+
+  pub number-large : 2 ^ 64 ≤ worth base 0 s → numberIn base s ≡ Bad
+  unfolding numberIn
+  number-large h = rw (le-ltb (worth base 0 s) (2 ^ 64) h, &&-false)
+
+  pub number-good : (v : ℕ) → 1 ≤ length s → all (isDigit base) s ≡ true → worth base 0 s ≡ v → v < 2 ^ 64 → numberIn base s ≡ Value v
+  unfolding numberIn
+  number-good v n a e h = rw (e, a, le-leb 1 (length s) n, lt-ltb v (2 ^ 64) h)
+
+-- the test against the largest number says exactly whether one digit more fits
+module _ (v base d m : ℕ) (p : 1 ≤ base) (q : d ≤ m) where
+  pub digit-fits : v ≤ (m - d) / base → v * base + d ≤ m
+  digit-fits h = let k : v * base ≤ m - d = le-div-iff-mul-le {k = base} {x = v} {y = m - d} p .0 h in omega arith
+
+  pub digit-over : (m - d) / base < v → m < v * base + d
+  digit-over h = let k : m - d < v * base = div-lt-iff-lt-mul {k = base} {x = m - d} {y = v} p .0 h in omega arith
+
+-- what &s[a..] is
+pub rest-part : (a : ℕ) (s : List ℕ) → take (length s - a) (drop a s) ≡ drop a s
+rest-part a s = take-all (length s - a) (drop a s) (rw length-drop (omega arith))
+
+-- The parts of a text about its first x.
+take-go : (t : Bool) (y : ℕ) (b s : List ℕ) → take (length b) s ≡ b → take (length (pick t [] (y ∷ b))) (y ∷ s) ≡ pick t [] (y ∷ b)
+take-go true y b s e = refl
+take-go false y b s e = ap (λ (r : List ℕ). y ∷ r) e
+
+pub take-before : (x : ℕ) (s : List ℕ) → take (length (before x s)) s ≡ before x s
+unfolding before
+take-before x [] = refl
+take-before x (y ∷ s) = take-go (eqb y x) y (before x s) s (take-before x s)
+
+drop-go : (t : Bool) (y : ℕ) (b s a : List ℕ) → drop (suc (length b)) s ≡ a → drop (suc (length (pick t [] (y ∷ b)))) (y ∷ s) ≡ pick t s a
+drop-go true y b s a e = refl
+drop-go false y b s a e = e
+
+drop-suc-before : (x : ℕ) (s : List ℕ) → drop (suc (length (before x s))) s ≡ after x s
+unfolding before after
+drop-suc-before x [] = refl
+drop-suc-before x (y ∷ s) = drop-go (eqb y x) y (before x s) s (after x s) (drop-suc-before x s)
+
+pub drop-before : (x : ℕ) (s : List ℕ) → drop (length (before x s) + 1) s ≡ after x s
+drop-before x s = rw add-one (drop-suc-before x s)
+
+has-go : (t h : Bool) (y : ℕ) (b s : List ℕ) → h ≡ ltb (length b) (length s) → (t || h) ≡ ltb (length (pick t [] (y ∷ b))) (length (y ∷ s))
+has-go true h y b s e = sym (lt-ltb 0 (suc (length s)) (omega arith))
+has-go false h y b s e = e ∙ sym (leb·suc-suc (suc (length b)) (length s))
+
+pub has-before : (x : ℕ) (s : List ℕ) → has x s ≡ ltb (length (before x s)) (length s)
+unfolding before has
+has-before x [] = sym (le-ltb 0 0 (omega arith))
+has-before x (y ∷ s) = has-go (eqb y x) (has x s) y (before x s) s (has-before x s)
+
+pub length-after : (x : ℕ) (s : List ℕ) → length (after x s) ≡ length s - (length (before x s) + 1)
+length-after x s = ap length (sym (drop-before x s)) ∙ length-drop (length (before x s) + 1) s
+
+pub &&-right : (a b : Bool) → (a && b) ≡ true → b ≡ true
+&&-right true b e = e
+&&-right false b e = cc
+
+pub false-true {ℓ} : {A : Type ℓ} → false ≡ true → A
+false-true e = absurd (let z : _≡_ {A = ℕ} 0 1 = cc in omega arith)
+
+-- After a good first pair comes the rest of the text.
+pub rest-at : (s : List ℕ) (k e : ℕ) → e ≡ length (nameIn (drop k s)) + 1 + length (valueIn (drop k s)) → drop (k + e + 1) s ≡ restOf (drop k s)
+rest-at s k e q =
+    let t : drop (length (before 61 (drop k s)) + 1) (drop k s) ≡ after 61 (drop k s) = drop-before 61 (drop k s) in
+    let u : drop (length (before 0 (after 61 (drop k s))) + 1) (after 61 (drop k s)) ≡ after 0 (after 61 (drop k s)) = drop-before 0 (after 61 (drop k s)) in
+    let v : drop (length (before 0 (after 61 (drop k s))) + 1) (drop (length (before 61 (drop k s)) + 1) (drop k s)) ≡ after 0 (after 61 (drop k s)) = rw t u in
+    let m : length (before 61 (drop k s)) + 1 + (length (before 0 (after 61 (drop k s))) + 1) ≡ e + 1 = omega (arith, q) in
+    let w : drop (length (before 61 (drop k s)) + 1 + (length (before 0 (after 61 (drop k s))) + 1)) (drop k s) ≡ after 0 (after 61 (drop k s)) = sym (drop-drop (length (before 0 (after 61 (drop k s))) + 1) (length (before 61 (drop k s)) + 1) (drop k s)) ∙ v in
+    let p : k + e + 1 ≡ k + (e + 1) = omega arith in
+    ap (λ (n : ℕ). drop n s) p ∙ sym (drop-drop (e + 1) k s) ∙ ap (λ (n : ℕ). drop n (drop k s)) (sym m) ∙ w
+
+-- One turn of a loop over the pairs of a text.
+pub some : (s : List ℕ) (k : ℕ) → k < length s → empty (drop k s) ≡ false
+some s k h = ne-eqb (length (drop k s)) 0 (λ z. let l : length (drop k s) ≡ length s - k = length-drop k s in omega arith)
+
+pub none : (s : List ℕ) (k : ℕ) → length s ≤ k → empty (drop k s) ≡ true
+none s k h = eq-eqb (length (drop k s)) 0 (length-drop k s ∙ omega arith)
+
+module _ (s : List ℕ) (k : ℕ) (h : k < length s) where
+  pub formed-none : formed 0 (drop k s) ≡ false
+  unfolding formed
+  formed-none = some s k h
+
+  pub formed-bad : (n : ℕ) → goodFirst (drop k s) ≡ false → formed n (drop k s) ≡ false
+  unfolding formed
+  formed-bad zero b = some s k h
+  formed-bad (suc n) b = rw (some s k h, b)
+
+  pub formed-step : (n e : ℕ) → goodFirst (drop k s) ≡ true → e ≡ length (nameIn (drop k s)) + 1 + length (valueIn (drop k s)) → formed (suc n) (drop k s) ≡ formed n (drop (k + e + 1) s)
+  unfolding formed
+  formed-step n e g q = rw (some s k h, g, rest-at s k e q)
+
+pub formed-end : (n : ℕ) (s : List ℕ) (k : ℕ) → length s ≤ k → formed n (drop k s) ≡ true
+unfolding formed
+formed-end zero s k h = none s k h
+formed-end (suc n) s k h = rw (none s k h)
+
+-- A comma list is its first item and the list after the comma.
+items-go : (t h : Bool) (c : ℕ) (b s a : List ℕ) → items s ≡ b ∷ pick h (items a) [] → pick t ([] ∷ items s) (onto c (items s)) ≡ pick t [] (c ∷ b) ∷ pick (t || h) (items (pick t s a)) []
+items-go true h c b s a e = refl
+items-go false h c b s a e = rw e
+
+items-cut : (s : List ℕ) → items s ≡ before 44 s ∷ pick (has 44 s) (items (after 44 s)) []
+unfolding items before has after
+items-cut [] = refl
+items-cut (c ∷ s) = items-go (eqb c 44) (has 44 s) c (before 44 s) s (after 44 s) (items-cut s)
+
+module _ (w s : List ℕ) where
+  pub listed-hit : same (before 44 s) w ≡ true → listed w s ≡ true
+  unfolding listed
+  listed-hit e = rw (items-cut s, e)
+
+  pub listed-last : same (before 44 s) w ≡ false → has 44 s ≡ false → listed w s ≡ false
+  unfolding listed
+  listed-last e h = rw (items-cut s, e, h)
+
+  pub listed-step : same (before 44 s) w ≡ false → has 44 s ≡ true → listed w s ≡ listed w (after 44 s)
+  unfolding listed
+  listed-step e h = rw (items-cut s, e, h)
+
+pub listed-empty : (w : List ℕ) → listed w [] ≡ eqb (length w) 0
+unfolding listed items same
+listed-empty [] = refl
+listed-empty (x ∷ w) = sym (ne-eqb (suc (length w)) 0 (λ e. omega arith))
+
+-- Decimal digits from the last.
+drop-set : (l : List ℕ) (i x : ℕ) → i < length l → drop i (set l i x) ≡ x ∷ drop (i + 1) l
+drop-set l i x h =
+    let k : i < length (set l i x) = rw length-set h in
+    drop-cons (set l i x) i 0 k ∙ ap₂ (λ (a : ℕ) (r : List ℕ). a ∷ r) (getD-set-same l i x 0 h) (drop-set-lt (suc i) l i x (omega arith) ∙ ap (λ (n : ℕ). drop n l) (sym (add-one i)))
+
+module _ (l : List ℕ) (i r : ℕ) (h : i < length l) where
+  pub decimal-step : 10 ≤ r → decimal (i + 1) r ++ drop (i + 1) l ≡ decimal i (r / 10) ++ drop i (set l i (48 + r % 10))
+  unfolding decimal
+  decimal-step b = rw (drop-set l i (48 + r % 10) h, add-one, le-ltb r 10 b, append-assoc)
+
+  pub decimal-last : r < 10 → decimal (i + 1) r ++ drop (i + 1) l ≡ drop i (set l i (48 + r))
+  unfolding decimal
+  decimal-last b = rw (drop-set l i (48 + r) h, add-one, lt-ltb r 10 b)
+
+length-go : (t : Bool) (k a b : ℕ) (d : List ℕ) → length d ≤ k → length (pick t (a ∷ []) (d ++ (b ∷ []))) ≤ suc k
+length-go true k a b d h = omega arith
+length-go false k a b d h = omega (arith, length-append d (b ∷ []))
+
+pub decimal-length : (k n : ℕ) → length (decimal k n) ≤ k
+unfolding decimal
+decimal-length zero n = omega arith
+decimal-length (suc k) n = length-go (ltb n 10) k (48 + n) (48 + n % 10) (decimal k (n / 10)) (decimal-length k (n / 10))
+
+-- a number of two digits or more has a digit before the last
+pub decimal-more : (r i : ℕ) → 10 ≤ r → r < 10 ^ (i + 1) → 1 ≤ i
+decimal-more r zero a b = absurd (let z : 10 ≤ 9 = omega arith in omega arith)
+decimal-more r (suc i) a b = omega arith
+
+pub getD-any {ℓ} : {A : Type ℓ} (l : List A) (k : ℕ) (d e : A) → k < length l → getD l k d ≡ getD l k e
+getD-any [] k d e h = absurd (not-suc-le-zero h)
+getD-any (x ∷ l) zero d e h = refl
+getD-any (x ∷ l) (suc k) d e h = getD-any l k d e (le-of-suc-le-suc h)
+
+-- A rule of tables, proved at every place below n by one test that antt computes.
+abbrev pub below : (ℕ → Bool) → ℕ → Bool
+below f zero = true
+below f (suc n) = f n && below f n
+
+at-go : (f : ℕ → Bool) (n k : ℕ) → f n ≡ true → (k < n → f k ≡ true) → k < suc n → (t : Bool) → eqb k n ≡ t → f k ≡ true
+at-go f n k p q h true e = rw (eqb-true k n e) p
+at-go f n k p q h false e = q (let z : k ≡ n → ⊥ = eqb-false k n e in omega arith)
+
+pub at : (f : ℕ → Bool) (n : ℕ) → below f n ≡ true → (k : ℕ) → k < n → f k ≡ true
+at f zero e k h = absurd (not-suc-le-zero h)
+at f (suc n) e k h = at-go f n k (&&-left (f n) (below f n) e) (at f n (&&-right (f n) (below f n) e) k) h (eqb k n) refl
+
+pub same-eq : (a b : List ℕ) → same a b ≡ true → a ≡ b
+unfolding same
+same-eq [] [] e = refl
+same-eq [] (y ∷ b) e = false-true e
+same-eq (x ∷ a) [] e = false-true e
+same-eq (x ∷ a) (y ∷ b) e = ap₂ (λ (h : ℕ) (t : List ℕ). h ∷ t) (eqb-true x y (&&-left (eqb x y) (same a b) e)) (same-eq a b (&&-right (eqb x y) (same a b) e))
+
+-- Two things put after each other.
+pub appended-then : {o a p b q : List ℕ} {at m n : ℕ} → Appended o at a p m → Appended p m b q n → Appended o at (a ++ b) q n
+appended-then {o} {a} {p} {b} {q} {at} {m} {n} x y = record {
+  count = y .count ∙ (rw (x .count, length-append a b) (add-assoc at (length a) (length b)));
+  text = y .text ∙ (rw (x .text) (append-assoc (take at o) a b));
+  rest = y .rest ∙ (rw (y .count) (sym (drop-drop (length b) m p) ∙ ap (drop (length b)) (x .rest) ∙ drop-drop (length b) m o));
+}
+
+-- A good first pair: its name is short, and = and a zero byte stand where they should.
+module _ (s : List ℕ) (e : goodFirst s ≡ true) where
+  pub good-name : goodName (nameIn s) ≡ true
+  unfolding goodFirst
+  good-name = &&-left _ _ (&&-left _ _ (&&-left _ _ e))
+
+  pub good-equals : length (nameIn s) < length s
+  unfolding goodFirst
+  good-equals = ltb-true _ _ (sym (has-before 61 s) ∙ &&-right (goodName (nameIn s)) _ (&&-left _ _ (&&-left _ _ e)))
+
+  pub good-zero : length (valueIn s) < length (after 61 s)
+  unfolding goodFirst
+  good-zero = ltb-true _ _ (sym (has-before 0 (after 61 s)) ∙ &&-right ((goodName (nameIn s) && has 61 s) && leb (length (valueIn s)) 255) _ e)
+
+  pub name-short : length (nameIn s) ≤ 63
+  unfolding goodName
+  name-short = leb-true _ 63 (&&-right (leb 1 (length (nameIn s))) _ (&&-left _ _ (&&-left _ _ (&&-left _ _ good-name))))
+
+-- The name and the value, as parts of the text.
+module _ {s : List ℕ} {eq end : ℕ} (p : EndsOf s eq end) where
+  pub ends-name : take eq s ≡ nameIn s
+  ends-name = rw (p .name) (take-before 61 s)
+
+  pub ends-value : take (end - (eq + 1)) (drop (eq + 1) s) ≡ valueIn s
+  ends-value =
+      let m : end - (eq + 1) ≡ length (before 0 (after 61 s)) = omega (arith, p .name, p .value) in
+      rw (m, p .name, drop-before 61 s) (take-before 0 (after 61 s))
+
+-- The whole output after an appending, and after one at its front.
+pub appended-whole : {o b p : List ℕ} {at r : ℕ} → Appended o at b p r → p ≡ (take at o ++ b) ++ drop (at + length b) o
+appended-whole {o} {b} {p} {at} {r} x =
+    sym (take-append-drop r p) ∙ ap₂ (λ (u v : List ℕ). u ++ v) (x .text) (x .rest ∙ ap (λ (n : ℕ). drop n o) (x .count))
+
+pub appended-front : {o b p : List ℕ} {r : ℕ} → Appended o 0 b p r → p ≡ b ++ drop (length b) o
+appended-front {o} {b} {p} {r} x = appended-whole x ∙ ap (λ (n : ℕ). b ++ drop n o) (zero-add (length b))
+
+pub appended-text : {o b p : List ℕ} {r : ℕ} → Appended o 0 b p r → take (length b) p ≡ b
+appended-text {o} {b} {p} {r} x = ap (λ (n : ℕ). take n p) (sym (zero-add (length b)) ∙ sym (x .count)) ∙ x .text
+
+-- A choice in the definition's order: past one that does not hold, and at one that does.
+pub past {ℓ} : {A : Type ℓ} (b : Bool) (x y z : A) → b ≡ false → y ≡ z → pick b x y ≡ z
+past true x y z e p = false-true (sym e)
+past false x y z e p = p
+
+pub here {ℓ} : {A : Type ℓ} (b : Bool) (x y : A) → b ≡ true → pick b x y ≡ x
+here true x y e = refl
+here false x y e = false-true e
+
+-- a status that is 0, and one that is not
+pub quiet : (n m : ℕ) → n ≡ m → n ≡ 0 → not (eqb m 0) ≡ false
+quiet n m e z = rw (← e, z)
+
+pub loud : (n m : ℕ) → n ≡ m → (n ≡ 0 → ⊥) → not (eqb m 0) ≡ true
+loud n m e z = rw (← e, ne-eqb n 0 z)

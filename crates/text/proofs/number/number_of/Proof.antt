@@ -1,0 +1,29 @@
+use borrow.Author.Needs.{needs}
+use borrow.Author.Tests.{le-leb, lt-leb, eq-eqb, ne-eqb}
+use Rattle.text.proofs.Laws.{rest-part}
+use Rattle.text.specs.Number.{numberOf}
+use mathlib.Core.Path.{_∙_}
+use Rattle.text.proofs.number.number_of.Statement.{statement}
+use Rattle.text.proofs.number.number_of.Tie as tie
+
+returns : tie.Need-returns
+unfolding numberOf
+returns c = simp (lt-leb _ _ (c .before .if1 .taken), c .number-in .ensures)
+
+returns-2 : tie.Need-returns-2
+unfolding numberOf
+returns-2 c = simp (le-leb _ _ (c .before .before .before .if1 .left), ne-eqb _ _ (c .before .if2 .taken), c .number-in2 .ensures)
+
+returns-3 : tie.Need-returns-3
+unfolding numberOf
+returns-3 c = let e = c .before .before .before .before in simp (le-leb _ _ (e .before .before .if1 .left), eq-eqb _ _ (e .if2 .left), c .before .before .if3 .taken) (c .number-in3 .ensures ∙ rw rest-part)
+
+returns-4 : tie.Need-returns-4
+unfolding numberOf
+returns-4 c = let e = c .before .before in simp (le-leb _ _ (e .before .before .if1 .left), eq-eqb _ _ (e .if2 .left), c .if3 .left)
+
+pub number-of-spec : {M : Type 1} → statement M
+number-of-spec =
+    tie.close (tie.spec
+    (λ c κs. search needs) returns (λ c. search needs) (λ c κs. search needs) returns-2 (λ c. search needs)
+    (λ c. search needs) (λ c. search needs) (λ c. search needs) (λ c κs. search needs) returns-3 returns-4)

@@ -1,0 +1,70 @@
+-- A text block: its form, and its pairs.
+use Prim.Native.Nat.{ℕ, zero, suc, _+_}
+use mathlib.Core.Bool.{Bool, true, false, not, _&&_, _||_}
+use mathlib.Core.List.{List, [], _∷_, _++_}
+use lib.ListN.{length, getD, drop}
+use mathlib.Core.Path.{_≡_}
+use Prim.Native.Nat.{_<_}
+use lib.Dec.{eqb, ltb, leb}
+use Rattle.text.specs.Text.{pick, before, after, has, all}
+
+abbrev pub within : ℕ → ℕ → ℕ → Bool
+within a b x = leb a x && leb x b
+
+abbrev pub upper : ℕ → Bool
+upper b = within 65 90 b
+
+-- letters, digits or . - + @ _
+unfoldable pub nameByte : ℕ → Bool
+nameByte b =
+    (((((((upper b || within 97 122 b) || within 48 57 b) || eqb b 46) || eqb b 45) || eqb b 43) || eqb b 64) || eqb b 95)
+
+-- 1 to 63 bytes: an upper-case letter, then name bytes (also # directly after a leading X)
+unfoldable pub goodName : List ℕ → Bool
+goodName n =
+    ((within 1 63 (length n) && upper (getD n 0 0))
+    && (((eqb (length n) 1 || nameByte (getD n 1 0)) || (eqb (getD n 0 0) 88 && eqb (getD n 1 0) 35))))
+    && all nameByte (drop 2 n)
+
+pub record Pair : Type 0 where
+  pub name : List ℕ
+  pub value : List ℕ
+
+-- the first pair of a text: its name ends at the first =, its value at the first zero byte after that
+abbrev pub nameIn : List ℕ → List ℕ
+nameIn s = before 61 s
+
+abbrev pub valueIn : List ℕ → List ℕ
+valueIn s = before 0 (after 61 s)
+
+abbrev pub restOf : List ℕ → List ℕ
+restOf s = after 0 (after 61 s)
+
+unfoldable pub goodFirst : List ℕ → Bool
+goodFirst s = ((goodName (nameIn s) && has 61 s) && leb (length (valueIn s)) 255) && has 0 (after 61 s)
+
+abbrev pub empty : List ℕ → Bool
+empty s = eqb (length s) 0
+
+-- at most n pairs, each good and followed by one zero byte
+unfoldable pub formed : ℕ → List ℕ → Bool
+formed zero s = empty s
+formed (suc n) s = empty s || (goodFirst s && formed n (restOf s))
+
+-- the first n pairs of a text that is formed
+unfoldable pub pairs : ℕ → List ℕ → List Pair
+pairs zero s = []
+pairs (suc n) s = pick (empty s) [] (record { name = nameIn s; value = valueIn s } ∷ pairs n (restOf s))
+
+-- what the scan of a first pair says: whether it is good, and if so, where its name and its value end
+pub record SpanOf (s : List ℕ) (eq end : ℕ) (ok : Bool) : Type 0 where
+  pub right : ok ≡ goodFirst s
+  pub name : ok ≡ true → eq ≡ length (nameIn s)
+  pub value : ok ≡ true → end ≡ length (nameIn s) + 1 + length (valueIn s)
+  pub inside : ok ≡ true → end < length s
+
+-- where the name and the value of a good first pair end, and that a zero byte follows
+pub record EndsOf (s : List ℕ) (eq end : ℕ) : Type 0 where
+  pub name : eq ≡ length (nameIn s)
+  pub value : end ≡ length (nameIn s) + 1 + length (valueIn s)
+  pub inside : end < length s
