@@ -16,13 +16,13 @@ use Rattle.header.specs.Response.{maxData, refusalIn, headerBytes}
 use Rattle.header.specs.declared.refusal.Refusal.{Refusal}
 use Rattle.header.specs.declared.response.Response.{Response}
 use Rattle.header.proofs.Laws.{length-bytes, number-positive}
-use lib.Seq.{paste, sets, getD-set-same, getD-set-other, length-paste, set-append-left, length-sets, take-all}
+use lib.Seq.{paste, sets, getD-set-same, getD-set-other, length-paste, set-append-left, length-sets, take-all, take-at}
 use Rattle.store.specs.Slot.{slotOf}
 use Rattle.store.proofs.Slots.{slot-same, slot-other}
 use Rattle.ledger.specs.declared.Ledger.{Ledger}
 use Rattle.ledger.specs.Book.{Status, LedgerBook, oldest, place, isStatus, isFull, refused, notStored, stored, sending, headerFor, sendBytes, sent, released, notHeld, run, runAt, runOf, renewed, Found, missing, found, lookup, statusOf}
 use Rattle.ledger.specs.declared.Sent.the-variants as S
-use Rattle.ledger.specs.Agree.{SlotHas, Agrees, Stored, Sends, ticket, nothing, Showing, showing}
+use Rattle.ledger.specs.Agree.{SlotHas, Agrees, Puts, Stored, Sends, ticket, nothing, Showing, showing}
 
 pub oldest-is : (b : LedgerBook) (o l h : ℕ) → l ≡ b .next → h ≡ length (b .held) → length (b .held) ≤ 32 → b .next < 2 ^ 32
     → o < 2 ^ 32 → (o + h) % 2 ^ 32 ≡ l → o ≡ oldest b
@@ -286,10 +286,10 @@ module _ (c : ℕ) (l : Ledger) (ticket : ℕ) (r : Response) (e m : ℕ) (out h
     right : (b : LedgerBook) → Agrees c l hs ts b → h ≡ headerFor b r e m
     right b g = is ∙ same-header b r (l .next) e m (g .next)
 
-    pub sends-unstored : ((b : LedgerBook) → Agrees c l hs ts b → sending b r ≡ notStored (b .next))
+    pub sends-unstored : isStatus r ≡ false → ((b : LedgerBook) → Agrees c l hs ts b → sending b r ≡ notStored (b .next))
         → Sends c l ticket r e m out hs ts (S.NotStored (l .next)) (h ++ drop 48 out) hs ts
     unfolding sendBytes
-    sends-unstored q = record {
+    sends-unstored s q = record {
       meets = λ b g. record {
         answer = ap notStored (g .next) ∙ sym (q b g);
         bytes = rw (q b g) (ap (λ (x : List ℕ). x ++ drop 48 out) (right b g));
@@ -298,14 +298,14 @@ module _ (c : ℕ) (l : Ledger) (ticket : ℕ) (r : Response) (e m : ℕ) (out h
       others = λ k n b ne g. g;
       headers-size = λ s. s;
       tickets-size = λ s. s;
-      stays = (refl, refl);
+      stays = (s, refl, refl);
     }
 
-    pub sends-stored : (l' : Ledger) (hs' ts' : List ℕ) → Stored c l ticket h hs ts l' hs' ts'
+    pub sends-stored : (l' : Ledger) (hs' ts' : List ℕ) → isStatus r ≡ true → length h ≡ 48 → Stored c l ticket h hs ts l' hs' ts'
         → ((b : LedgerBook) → Agrees c l hs ts b → sending b r ≡ stored (b .next))
         → Sends c l ticket r e m out hs ts (S.Stored (l .next) l') (h ++ drop 48 out) hs' ts'
     unfolding sendBytes
-    sends-stored l' hs' ts' k q = record {
+    sends-stored l' hs' ts' s z k q = record {
       meets = λ b g. record {
         answer = ap stored (g .next) ∙ sym (q b g);
         bytes = rw (q b g) (ap (λ (x : List ℕ). x ++ drop 48 out) (right b g));
@@ -314,5 +314,5 @@ module _ (c : ℕ) (l : Ledger) (ticket : ℕ) (r : Response) (e m : ℕ) (out h
       others = k .others;
       headers-size = k .headers-size;
       tickets-size = k .tickets-size;
-      stays = tt;
+      stays = (s, subst (λ (x : List ℕ). Puts c (l .next) ticket x hs hs' ts ts') (sym (take-at h (drop 48 out) 48 z)) (k .puts));
     }

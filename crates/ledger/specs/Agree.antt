@@ -4,11 +4,12 @@ use Prim.Native.Nat.{ℕ, _+_, _*_, _%_, _^_, _<_, _≤_}
 use mathlib.Core.Path.{_≡_}
 use mathlib.Core.Bool.{true, false}
 use mathlib.Core.List.{List, _++_}
-use lib.ListN.{length, getD, drop}
+use lib.ListN.{length, getD, set, take, drop}
+use lib.Seq.{paste}
 use Rattle.header.specs.Refusal.{number}
 use Rattle.header.specs.declared.response.Response.{Response}
 use Rattle.store.specs.Slot.{headerSize, slotOf}
-use Rattle.ledger.specs.Book.{statuses, connections, Status, LedgerBook, freshLedger, oldest, place, Sending, refused, notStored, stored, sending, headerFor, sendBytes, sent, isGood, released, notHeld, run, Found, missing, found, lookup, statusOf, renewed}
+use Rattle.ledger.specs.Book.{statuses, connections, Status, LedgerBook, freshLedger, isStatus, oldest, place, Sending, refused, notStored, stored, sending, headerFor, sendBytes, sent, isGood, released, notHeld, run, Found, missing, found, lookup, statusOf, renewed}
 use Rattle.ledger.specs.Book as Book
 use Rattle.ledger.specs.declared.Ledger.{Ledger}
 use Rattle.ledger.specs.declared.Sent.{Sent}
@@ -44,12 +45,18 @@ pub record Agrees (c : ℕ) (l : Ledger) (hs ts : List ℕ) (b : LedgerBook) : T
 pub record Opened (r : Ledger) (first : ℕ) : Type 0 where
   pub agrees : (c : ℕ) (hs ts : List ℕ) → c < connections → length hs ≡ slots * headerSize → length ts ≡ slots → Agrees c r hs ts (freshLedger first)
 
+-- A status that is stored changes the slot of its number in c's part, and no other byte of the arrays.
+unfoldable pub Puts : (c number ticket : ℕ) → (header : List ℕ) → (hs hs' ts ts' : List ℕ) → Type 0
+Puts c n t h hs hs' ts ts' =
+    (hs' ≡ paste hs ((c * statuses + n % statuses) * headerSize) h headerSize) × (ts' ≡ set ts (c * statuses + n % statuses) t)
+
 -- A status stored in c's ledger: c's agreement goes on, the others' stays.
 pub record Stored (c : ℕ) (l : Ledger) (ticket : ℕ) (header hs ts : List ℕ) (r : Ledger) (hs' ts' : List ℕ) : Type 0 where
   pub agrees : (b : LedgerBook) → Agrees c l hs ts b → Agrees c r hs' ts' (sent b (record { header = header; ticket = ticket }))
   pub others : (k : ℕ) (m : Ledger) (b : LedgerBook) → (k ≡ c → ⊥) → Agrees k m hs ts b → Agrees k m hs' ts' b
   pub headers-size : length hs ≡ slots * headerSize → length hs' ≡ slots * headerSize
   pub tickets-size : length ts ≡ slots → length ts' ≡ slots
+  pub puts : Puts c (l .next) ticket header hs hs' ts ts'
 
 -- ---- send
 
@@ -64,11 +71,12 @@ SentAgrees c (S.Refused f) hs ts b = Unit {0}
 SentAgrees c (S.NotStored n) hs ts b = Unit {0}
 SentAgrees c (S.Stored n l) hs ts b = Agrees c l hs ts b
 
--- "A refusal .. changes nothing"; what is not stored leaves the arrays.
-abbrev pub SentStays : Sent → (out out' hs hs' ts ts' : List ℕ) → Type 0
-SentStays (S.Refused f) o o' hs hs' ts ts' = (o' ≡ o) × (hs' ≡ hs) × (ts' ≡ ts)
-SentStays (S.NotStored n) o o' hs hs' ts ts' = (hs' ≡ hs) × (ts' ≡ ts)
-SentStays (S.Stored n l) o o' hs hs' ts ts' = Unit {0}
+-- Of any ledger: "A refusal .. changes nothing"; what is not stored leaves the arrays; what is stored, the first 48 bytes of
+-- the output, changes one slot.
+abbrev pub SentStays : (c ticket : ℕ) → Response → Sent → (out out' hs hs' ts ts' : List ℕ) → Type 0
+SentStays c t r (S.Refused f) o o' hs hs' ts ts' = (o' ≡ o) × (hs' ≡ hs) × (ts' ≡ ts)
+SentStays c t r (S.NotStored n) o o' hs hs' ts ts' = (isStatus r ≡ false) × (hs' ≡ hs) × (ts' ≡ ts)
+SentStays c t r (S.Stored n l) o o' hs hs' ts ts' = (isStatus r ≡ true) × Puts c n t (take headerSize o') hs hs' ts ts'
 
 pub record SendsAt (c ticket : ℕ) (r : Response) (e m : ℕ) (out : List ℕ) (x : Sent) (out' hs' ts' : List ℕ) (b : LedgerBook) : Type 0 where
   pub answer : sentOf x ≡ sending b r
@@ -80,7 +88,7 @@ pub record Sends (c : ℕ) (l : Ledger) (ticket : ℕ) (r : Response) (e m : ℕ
   pub others : (k : ℕ) (n : Ledger) (b : LedgerBook) → (k ≡ c → ⊥) → Agrees k n hs ts b → Agrees k n hs' ts' b
   pub headers-size : length hs ≡ slots * headerSize → length hs' ≡ slots * headerSize
   pub tickets-size : length ts ≡ slots → length ts' ≡ slots
-  pub stays : SentStays x out out' hs hs' ts ts'
+  pub stays : SentStays c ticket r x out out' hs hs' ts ts'
 
 -- ---- acknowledge, SNACK, resend
 

@@ -98,7 +98,9 @@ pub fn send(
     tickets: &mut [u32; LEDGER_SLOTS],
 ) -> Sent
     requires { ⌜ (c < connections) × (headerSize ≤ length (now out)) ⌝ }
-    ensures { λ x. ⌜ Sends c l ticket r «exp_cmd_sn» «max_cmd_sn» (now (out .entry)) (now (headers .entry)) (now (tickets .entry)) x (now (out .exit)) (now (headers .exit)) (now (tickets .exit)) ⌝ }
+    ensures { λ x. ⌜ Sends c l ticket r «exp_cmd_sn» «max_cmd_sn»
+        (now (out .entry)) (now (headers .entry)) (now (tickets .entry))
+        x (now (out .exit)) (now (headers .exit)) (now (tickets .exit)) ⌝ }
 {
     match header::write::judge(r, MAX_DATA) {
         Judgement::Refused(f) => Sent::Refused(f),
@@ -237,7 +239,9 @@ pub fn resend(
     out: &mut [u8],
 ) -> Resent
     requires { ⌜ (c < connections) × (headerSize ≤ length (now out)) ⌝ }
-    ensures { λ r. ⌜ Resends c l «stat_sn» «exp_cmd_sn» «max_cmd_sn» (now (headers .entry)) (now (tickets .entry)) (now (out .entry)) r (now (out .exit)) ⌝ }
+    ensures { λ r. ⌜ Resends c l «stat_sn» «exp_cmd_sn» «max_cmd_sn»
+        (now (headers .entry)) (now (tickets .entry)) (now (out .entry))
+        r (now (out .exit)) ⌝ }
 {
     let place = place_of(l, stat_sn);
     if l.held <= place {

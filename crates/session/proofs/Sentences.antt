@@ -22,12 +22,12 @@ use Rattle.header.proofs.Laws.{length-bytes}
 use Rattle.window.specs.Book as W
 use Rattle.window.specs.Book.{Place, empty, holds, Command, connection}
 use Rattle.ledger.specs.Book as L
-use Rattle.session.specs.Book.{Offered, denied, atOnce, numbered, offeredAs, isOffered, Connection, closed, live, Book, freshBook, Call, offer, take, logout, opening, send, acknowledge, snack, resend, windowNumbers, Answer, refused, immediate, window, sent, acknowledged, run, resent, numbers, Step, step, connOf, withWindow, withConn, byWindow, onOpen, onConnection, lending, offerBy, loggedOut, logoutBy, openAt, sendAs, sendBy, acknowledgeBy, runStep, Asked, asked, deniedRun, from, snackBy, shown, resendBy, bookStep}
+use Rattle.session.specs.Book.{Offered, denied, atOnce, numbered, offeredAs, isOffered, Connection, closed, live, Book, freshBook, Call, offer, take, logout, opening, send, acknowledge, snack, resend, windowNumbers, refused, immediate, window, sent, acknowledged, run, resent, numbers, Step, step, connOf, withWindow, withConn, byWindow, onOpen, onConnection, lending, offerBy, loggedOut, logoutBy, openAt, sendAs, sendBy, acknowledgeBy, runStep, Asked, asked, deniedRun, from, snackBy, shown, resendBy, cmdSN, bookStep}
 use Rattle.session.specs.History.{event, booked, bookRun}
-use Rattle.session.specs.Notions.{Effect, keeps, handsOut, logsOut, opens, sends, acknowledges, nothing, effectOf, cmdSN, cmdSNOf, same, handOuts, next, distance, amongNext, amongLast, Latest, by, latestOffer, originOf, held, expCmdSN, maxCmdSN, voidedSince, emptied, isOpen, lastSent, acknowledgedSince}
+use Rattle.session.specs.Notions.{Effect, keeps, handsOut, logsOut, opens, sends, acknowledges, nothing, effectOf, same, handOuts, next, distance, amongNext, amongLast, Latest, by, latestOffer, originOf, held, expCmdSN, maxCmdSN, voidedSince, emptied, isOpen, lastSent, acknowledgedSince}
 use Rattle.session.specs.Demand.{Takes, Offers, Shows, Resends, NotRefused, Sentences, Each, Demand3}
 use Rattle.header.proofs.Writing.{length-header}
-use Rattle.session.proofs.Steps.{apart}
+use Rattle.session.proofs.Steps.{apart, offered-number}
 use Rattle.session.proofs.PastWindow.{AllNumbered, WindowInv, next-is, distance-is, held-is, isHeld, q-opens, q-sends, q-acknowledges, q-nothing, window-quiet, window-keeps, window-hands, window-logs, window-fresh, count-is, exp-is, max-is, last-is, was-offered, placeIn, placeOf, headerIn, ticketIn, place-first}
 use Rattle.session.proofs.PastConns.{LiveOk, ConnIs, ConnInv, statusIn, conn-still, s-keeps, s-handsOut, s-nothing, conn-open, conn-send, conn-ack, conn-logs, conn-fresh}
 
@@ -79,19 +79,6 @@ by-lend P b o s short f = go (decLt (length o) 48)
     go : Dec (length o < 48) → P (pick (ltb (length o) 48) (step (refused 1) o b) s)
     go (yes l) = rw (lt-ltb (length o) 48 l) short
     go (no l) = let m : 48 ≤ length o = omega arith in rw (le-ltb (length o) 48 m) (f m)
-
-offered-number : (p : List ℕ) (n : ℕ) → offeredAs (readPdu limits p) ≡ numbered n → n ≡ cmdSN p
-unfolding cmdSN
-offered-number p n e = go (readPdu limits p) e
-  where
-    picks : (a c : Bool) (m : ℕ) → pick a (pick c atOnce (numbered m)) (denied 3) ≡ numbered n → n ≡ m
-    picks true true m e = let z : _≡_ {A = ℕ} 0 1 = cc in absurd (omega arith)
-    picks true false m e = cc
-    picks false c m e = let z : _≡_ {A = ℕ} 0 1 = cc in absurd (omega arith)
-
-    go : (x : Read.Answer) → offeredAs x ≡ numbered n → n ≡ cmdSNOf x
-    go (Read.refused k) e = let z : _≡_ {A = ℕ} 0 1 = cc in absurd (omega arith)
-    go (Read.got x) e = picks (isOffered (x .request)) (x .immediate) (x .«cmd_sn») e
 
 -- what the outcome of a send says
 record Stored (q : L.LedgerBook) (r : Response) (n : ℕ) : Type 0 where

@@ -23,8 +23,8 @@ use Rattle.ledger.specs.Book as L
 use Rattle.ledger.specs.Agree as LA
 use Rattle.ledger.specs.declared.Ledger.{Ledger}
 use Rattle.session.specs.declared.Session.{Session}
-use Rattle.session.specs.Book.{Offered, denied, atOnce, numbered, Connection, closed, live, Book, Call, offer, take, logout, opening, send, acknowledge, snack, resend, Answer, refused, immediate, opened, window, sent, acknowledged, run, resent, Step, step, connOf, withWindow, withConn, byWindow, onOpen, onConnection, lending, offerBy, offeredAs, connsLeft, loggedOut, logoutBy, openAt, sendAs, sendBy, acknowledgeBy, runStep, Asked, asked, deniedRun, from, snackBy, shown, resendBy, bookStep}
-use Rattle.session.specs.Agree.{State, state, noLedger, ledgerOf, ConnAgrees, Agrees, MeetsAt, lent, WindowStays, Stays, Did, IsOpen, withLedger, LeavesConns}
+use Rattle.session.specs.Book.{Offered, denied, atOnce, numbered, Connection, closed, live, Book, Call, offer, take, logout, opening, send, acknowledge, snack, resend, Answer, refused, immediate, opened, window, sent, acknowledged, run, resent, Step, step, connOf, withWindow, withConn, byWindow, onOpen, onConnection, lending, offerBy, offeredAs, connsLeft, loggedOut, logoutBy, openAt, sendAs, sendBy, acknowledgeBy, runStep, Asked, asked, deniedRun, from, snackBy, shown, resendBy, isOffered, cmdSN, cmdSNOf, bookStep}
+use Rattle.session.specs.Agree.{State, state, noLedger, ledgerOf, ConnAgrees, Agrees, MeetsAt, lent, Changes, WindowStays, Stays, Did, IsOpen, withLedger, LeavesConns}
 
 -- ---- from the book's step, known whole
 
@@ -144,28 +144,31 @@ window-agrees s hs ts b x x' w g a = record {
   conns = g .conns;
 }
 
-pub stays-window : (s : Session) (hs ts : List ℕ) (a : W.Answer) (x x' : WA.State) (l o : List ℕ) → WA.Stays a x x' l o → WindowStays a (embed s hs ts x) (embed s hs ts x') l o
-stays-window s hs ts W.kept x x' l o e = tt
-stays-window s hs ts W.duplicate x x' l o e = ap (embed s hs ts) e
-stays-window s hs ts W.passed x x' l o e = ap (embed s hs ts) e
-stays-window s hs ts W.beyond x x' l o e = ap (embed s hs ts) e
-stays-window s hs ts W.nothing x x' l o e = (ap (embed s hs ts) (e .0), e .1)
-stays-window s hs ts (W.command n t w) x x' l o e = tt
-stays-window s hs ts (W.void n) x x' l o e = e
-stays-window s hs ts (W.loggedOut n v) x x' l o e = tt
+pub stays-window : (call : Call) (wcall : W.Call) (s : Session) (hs ts : List ℕ) (a : W.Answer) (x x' : WA.State) (l o : List ℕ)
+    → (WA.Keeps wcall x x' → Changes call 0 o (embed s hs ts x) (embed s hs ts x')) → WA.Stays wcall a x x' l o
+    → WindowStays call a (embed s hs ts x) (embed s hs ts x') l o
+stays-window call wcall s hs ts W.kept x x' l o k e = k e
+stays-window call wcall s hs ts W.duplicate x x' l o k e = ap (embed s hs ts) e
+stays-window call wcall s hs ts W.passed x x' l o k e = ap (embed s hs ts) e
+stays-window call wcall s hs ts W.beyond x x' l o k e = ap (embed s hs ts) e
+stays-window call wcall s hs ts W.nothing x x' l o k e = (ap (embed s hs ts) (e .0), e .1)
+stays-window call wcall s hs ts (W.command n t w) x x' l o k e = tt
+stays-window call wcall s hs ts (W.void n) x x' l o k e = e
+stays-window call wcall s hs ts (W.loggedOut n v) x x' l o k e = tt
 
 -- a call that is a call of the window
 pub by-window : (call : Call) (wcall : W.Call) (s : Session) (hs ts : List ℕ) (x x' : WA.State) (a : W.Answer) (o : List ℕ) → WA.lent wcall ≡ lent call
+    → (WA.Keeps wcall x x' → Changes call 0 o (embed s hs ts x) (embed s hs ts x'))
     → WA.Did wcall x a o x' → ((b : Book) → Agrees (embed s hs ts x) b → bookStep b call ≡ byWindow b (W.bookStep (b .window) wcall))
     → Did call (embed s hs ts x) (window a) o (embed s hs ts x')
 unfolding byWindow
-by-window call wcall s hs ts x x' a o q d f = record {
+by-window call wcall s hs ts x x' a o q k d f = record {
   meets = λ b g.
       let m = d .meets (b .window) (g .window) in
       met call (embed s hs ts x) (window a) o (embed s hs ts x') b (withWindow b (W.bookStep (b .window) wcall .book))
       (f b g ∙ ap₂ (λ (y : Answer) (z : List ℕ). step y z (withWindow b (W.bookStep (b .window) wcall .book))) (ap window (sym (m .answer))) (sym (m .bytes)))
       (window-agrees s hs ts b x x' (W.bookStep (b .window) wcall .book) g (m .agrees));
-  stays = stays-window s hs ts a x x' (lent call) o (subst (λ (l : List ℕ). WA.Stays a x x' l o) q (d .stays));
+  stays = stays-window call wcall s hs ts a x x' (lent call) o k (subst (λ (l : List ℕ). WA.Stays wcall a x x' l o) q (d .stays));
 }
 
 -- ---- a connection changed
@@ -342,3 +345,17 @@ numbered-long p n e = go (readPdu limits p) refl e
     go : (r : Read.Answer) → readPdu limits p ≡ r → numbered n ≡ offeredAs r → 48 ≤ length p
     go (Read.refused k) q e = let z : _≡_ {A = ℕ} 0 1 = cc in absurd (omega arith)
     go (Read.got x) q e = got-long limits p x q
+
+-- the number of a numbered offer is its CmdSN
+pub offered-number : (p : List ℕ) (n : ℕ) → offeredAs (readPdu limits p) ≡ numbered n → n ≡ cmdSN p
+unfolding cmdSN
+offered-number p n e = go (readPdu limits p) e
+  where
+    picks : (a c : Bool) (m : ℕ) → pick a (pick c atOnce (numbered m)) (denied 3) ≡ numbered n → n ≡ m
+    picks true true m e = let z : _≡_ {A = ℕ} 0 1 = cc in absurd (omega arith)
+    picks true false m e = cc
+    picks false c m e = let z : _≡_ {A = ℕ} 0 1 = cc in absurd (omega arith)
+
+    go : (x : Read.Answer) → offeredAs x ≡ numbered n → n ≡ cmdSNOf x
+    go (Read.refused k) e = let z : _≡_ {A = ℕ} 0 1 = cc in absurd (omega arith)
+    go (Read.got x) e = picks (isOffered (x .request)) (x .immediate) (x .«cmd_sn») e

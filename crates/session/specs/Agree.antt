@@ -2,16 +2,18 @@
 -- contract that all calls share, `Did`.
 use Prim.Native.Nat.{ℕ, _*_, _<_, _≤_}
 use mathlib.Core.Path.{_≡_}
-use mathlib.Core.Bool.{true, false}
+use mathlib.Core.Bool.{Bool, true, false}
 use mathlib.Core.List.{List, []}
 use lib.ListN.{length, getD, set, replicate}
+use lib.ListN as ListN
+use Rattle.ledger.specs.Book.{isStatus}
 use Rattle.header.specs.Refusal.{number}
 use Rattle.store.specs.Slot.{headerSize}
 use Rattle.window.specs.Agree as WA
 use Rattle.window.specs.Book as W
 use Rattle.ledger.specs.Agree as LA
 use Rattle.ledger.specs.declared.Ledger.{Ledger}
-use Rattle.session.specs.Book.{connections, Connection, closed, live, Book, freshBook, Call, offer, take, logout, opening, send, acknowledge, snack, resend, windowNumbers, Answer, refused, immediate, opened, window, sent, acknowledged, run, resent, numbers, bookStep, Offered, denied, atOnce, numbered, Asked, deniedRun, from}
+use Rattle.session.specs.Book.{connections, Connection, closed, live, Book, freshBook, Call, offer, take, logout, opening, send, acknowledge, snack, resend, windowNumbers, Answer, refused, immediate, opened, window, sent, acknowledged, run, resent, numbers, cmdSN, bookStep, Offered, denied, atOnce, numbered, Asked, deniedRun, from}
 use Rattle.session.specs.declared.Session.{Session}
 use Rattle.session.specs.declared.FreshSession.{FreshSession}
 use Rattle.session.specs.declared.connection.Reached.{Reached}
@@ -146,33 +148,50 @@ lent (snack c p) = []
 lent (resend c n o) = o
 lent windowNumbers = []
 
--- What an answer leaves as it was, of whatever state, also of one that stands for no book: a refusal leaves all, an answer
--- that only shows something leaves the state, a void hand-out leaves the output.
-abbrev pub WindowStays : W.Answer → State → State → List ℕ → List ℕ → Type 0
-WindowStays W.kept s s' l o = Unit {0}
-WindowStays W.duplicate s s' l o = s' ≡ s
-WindowStays W.passed s s' l o = s' ≡ s
-WindowStays W.beyond s s' l o = s' ≡ s
-WindowStays W.nothing s s' l o = (s' ≡ s) × (o ≡ l)
-WindowStays (W.command n t w) s s' l o = Unit {0}
-WindowStays (W.void n) s s' l o = o ≡ l
-WindowStays (W.loggedOut e v) s s' l o = Unit {0}
+-- The bytes of the arrays that an offer changes where it is kept, and a send where it is a status: those of one slot, its
+-- number's. (The number of a kept offer is its own; n is the StatSN of a send, and o the output after it.)
+abbrev pub Stored : Bool → (c n t : ℕ) → (o : List ℕ) → State → State → Type 0
+Stored true c n t o s s' = LA.Puts c n t (ListN.take headerSize o) (s .statuses) (s' .statuses) (s .status-tickets) (s' .status-tickets)
+Stored false c n t o s s' = s' ≡ s
 
-abbrev pub Stays : Answer → State → State → List ℕ → List ℕ → Type 0
-Stays (refused n) s s' l o = (s' ≡ s) × (o ≡ l)
-Stays immediate s s' l o = s' ≡ s
-Stays opened s s' l o = Unit {0}
-Stays (window a) s s' l o = WindowStays a s s' l o
-Stays (sent n) s s' l o = Unit {0}
-Stays (acknowledged n) s s' l o = Unit {0}
-Stays (run f n) s s' l o = s' ≡ s
-Stays (resent t) s s' l o = s' ≡ s
-Stays (numbers e m) s s' l o = s' ≡ s
+abbrev pub Changes : Call → (n : ℕ) → (o : List ℕ) → State → State → Type 0
+Changes (offer c t p) n o s s' = WA.Puts (cmdSN p) t (ListN.take headerSize p) (s .headers) (s' .headers) (s .tickets) (s' .tickets)
+Changes (take x) n o s s' = Unit {0}
+Changes (logout c r) n o s s' = Unit {0}
+Changes (opening c m) n o s s' = Unit {0}
+Changes (send c t r x) n o s s' = Stored (isStatus r) c n t o s s'
+Changes (acknowledge c e) n o s s' = Unit {0}
+Changes (snack c p) n o s s' = Unit {0}
+Changes (resend c m x) n o s s' = Unit {0}
+Changes windowNumbers n o s s' = Unit {0}
+
+-- What an answer leaves as it was, of whatever state, also of one that stands for no book: a refusal leaves all, an answer
+-- that only shows something leaves the state, a void hand-out leaves the output. Arrays that a call doesn't lend stay.
+abbrev pub WindowStays : Call → W.Answer → State → State → List ℕ → List ℕ → Type 0
+WindowStays call W.kept s s' l o = Changes call 0 o s s'
+WindowStays call W.duplicate s s' l o = s' ≡ s
+WindowStays call W.passed s s' l o = s' ≡ s
+WindowStays call W.beyond s s' l o = s' ≡ s
+WindowStays call W.nothing s s' l o = (s' ≡ s) × (o ≡ l)
+WindowStays call (W.command n t w) s s' l o = Unit {0}
+WindowStays call (W.void n) s s' l o = o ≡ l
+WindowStays call (W.loggedOut e v) s s' l o = Unit {0}
+
+abbrev pub Stays : Call → Answer → State → State → List ℕ → List ℕ → Type 0
+Stays call (refused n) s s' l o = (s' ≡ s) × (o ≡ l)
+Stays call immediate s s' l o = s' ≡ s
+Stays call opened s s' l o = Unit {0}
+Stays call (window a) s s' l o = WindowStays call a s s' l o
+Stays call (sent n) s s' l o = Changes call n o s s'
+Stays call (acknowledged n) s s' l o = Unit {0}
+Stays call (run f n) s s' l o = s' ≡ s
+Stays call (resent t) s s' l o = s' ≡ s
+Stays call (numbers e m) s s' l o = s' ≡ s
 
 -- The contract of every call.
 pub record Did (call : Call) (s : State) (a : Answer) (o : List ℕ) (s' : State) : Type 0 where
   pub meets : Meets call s a o s'
-  pub stays : Stays a s s' (lent call) o
+  pub stays : Stays call a s s' (lent call) o
 
 -- ---- the inner functions
 

@@ -122,6 +122,14 @@ abbrev pub offeredAs : Read.Answer → Offered
 offeredAs (Read.refused n) = denied n
 offeredAs (Read.got p) = pick (isOffered (p .request)) (pick (p .immediate) atOnce (numbered (p .«cmd_sn»))) (denied 3)
 
+-- The CmdSN of a PDU that is read.
+abbrev pub cmdSNOf : Read.Answer → ℕ
+cmdSNOf (Read.refused n) = 0
+cmdSNOf (Read.got p) = p .«cmd_sn»
+
+unfoldable pub cmdSN : (pdu : List ℕ) → ℕ
+cmdSN pdu = cmdSNOf (readPdu limits pdu)
+
 -- "Its 48 header bytes are what is kept."
 unfoldable pub offerBy : Book → (connection ticket : ℕ) → (pdu : List ℕ) → Offered → Step
 offerBy b c t pdu (denied n) = refuse n [] b

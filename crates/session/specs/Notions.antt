@@ -8,13 +8,11 @@ use mathlib.Core.List.{List, [], _∷_}
 use lib.Dec.{ltb, eqb}
 use lib.ListN as ListN
 use Rattle.header.specs.Field.{pick}
-use Rattle.header.specs.Request.{limits, readPdu}
-use Rattle.header.specs.Request as Read
 use Rattle.store.specs.Slot.{headerSize}
 use Rattle.window.specs.Book.{Origin, connection, isFrom, places}
 use Rattle.window.specs.Book as W
 use Rattle.ledger.specs.Book.{Found, missing, found, isStatus}
-use Rattle.session.specs.Book.{Call, offer, take, logout, opening, send, acknowledge, snack, resend, windowNumbers, Answer, refused, immediate, opened, window, sent, acknowledged, run, resent, numbers}
+use Rattle.session.specs.Book.{Call, offer, take, logout, opening, send, acknowledge, snack, resend, windowNumbers, Answer, refused, immediate, opened, window, sent, acknowledged, run, resent, numbers, cmdSN}
 use Rattle.session.specs.History.{Event}
 
 -- ---- what an event did
@@ -59,14 +57,6 @@ byAnswer w o s k (numbers e m) = nothing
 
 abbrev pub never : {A : Type 0} → A → Effect
 never x = nothing
-
--- The CmdSN of a PDU.
-abbrev pub cmdSNOf : Read.Answer → ℕ
-cmdSNOf (Read.refused n) = 0
-cmdSNOf (Read.got p) = p .«cmd_sn»
-
-unfoldable pub cmdSN : (pdu : List ℕ) → ℕ
-cmdSN pdu = cmdSNOf (readPdu limits pdu)
 
 -- "A NOP-In with ITT 0xffffffff .. doesn't count as a status sent": its send does nothing.
 abbrev pub effectBy : Call → List ℕ → Answer → Effect

@@ -95,7 +95,10 @@ pub fn offer(
     headers: &mut [u8; WINDOW_BYTES],
     tickets: &mut [u32; WINDOW_SLOTS],
 ) -> OfferStep
-    ensures { λ r. ⌜ ((hs ts : List ℕ) → Did (Call.offer conn ticket (now (pdu .entry))) (state s (now (headers .entry)) (now (tickets .entry)) hs ts) (offerAnswer (r .answer)) [] (state (r .session) (now (headers .exit)) (now (tickets .exit)) hs ts)) ⌝ }
+    ensures { λ r. ⌜ ((hs ts : List ℕ)
+        → Did (Call.offer conn ticket (now (pdu .entry)))
+        (state s (now (headers .entry)) (now (tickets .entry)) hs ts) (offerAnswer (r .answer)) []
+        (state (r .session) (now (headers .exit)) (now (tickets .exit)) hs ts)) ⌝ }
 {
     match reach(s, conn) {
         Reached::NoConn => OfferStep {
@@ -141,7 +144,10 @@ pub fn take(
     tickets: &[u32; WINDOW_SLOTS],
     out: &mut [u8],
 ) -> TakeStep
-    ensures { λ r. ⌜ ((hs ts : List ℕ) → Did (Call.take (now (out .entry))) (state s (now (headers .entry)) (now (tickets .entry)) hs ts) (takeAnswer (r .answer)) (now (out .exit)) (state (r .session) (now (headers .entry)) (now (tickets .entry)) hs ts)) ⌝ }
+    ensures { λ r. ⌜ ((hs ts : List ℕ)
+        → Did (Call.take (now (out .entry)))
+        (state s (now (headers .entry)) (now (tickets .entry)) hs ts) (takeAnswer (r .answer)) (now (out .exit))
+        (state (r .session) (now (headers .entry)) (now (tickets .entry)) hs ts)) ⌝ }
 {
     if out.len() < HEADER_BYTES {
         return TakeStep {

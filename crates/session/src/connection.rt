@@ -70,7 +70,10 @@ pub(crate) fn with_ledger(s: Session, conn: u32, l: Ledger) -> Session
 
 // Opens a connection with its first StatSN, its ledger empty. NOCONN, then OPEN.
 pub fn open_connection(s: Session, conn: u32, stat_sn: u32) -> OpenStep
-    ensures { λ r. ⌜ ((h t hs ts : List ℕ) → Did (Call.opening conn «stat_sn») (state s h t hs ts) (openAnswer (r .answer)) [] (state (r .session) h t hs ts)) ⌝ }
+    ensures { λ r. ⌜ ((h t hs ts : List ℕ)
+        → Did (Call.opening conn «stat_sn»)
+        (state s h t hs ts) (openAnswer (r .answer)) []
+        (state (r .session) h t hs ts)) ⌝ }
 {
     match reach(s, conn) {
         Reached::NoConn => OpenStep {
@@ -109,7 +112,10 @@ fn conns_left(conns: [Ledger; CONNS], conn: u32, reason: u8) -> [Ledger; CONNS]
 // The effect of a logout on an open connection, with what it emptied and newly voided. NOCONN, CLOSED, then FIELD for a
 // reason above 2.
 pub fn logout(s: Session, conn: u32, reason: u8) -> LogoutStep
-    ensures { λ r. ⌜ ((h t hs ts : List ℕ) → Did (Call.logout conn reason) (state s h t hs ts) (logoutAnswer (r .answer)) [] (state (r .session) h t hs ts)) ⌝ }
+    ensures { λ r. ⌜ ((h t hs ts : List ℕ)
+        → Did (Call.logout conn reason)
+        (state s h t hs ts) (logoutAnswer (r .answer)) []
+        (state (r .session) h t hs ts)) ⌝ }
 {
     match reach(s, conn) {
         Reached::NoConn => LogoutStep {

@@ -69,7 +69,11 @@ pub fn send(
     statuses: &mut [u8; LEDGER_BYTES],
     status_tickets: &mut [u32; LEDGER_SLOTS],
 ) -> SendStep
-    ensures { λ x. ⌜ ((h t : List ℕ) → Did (Call.send conn ticket r (now (out .entry))) (state s h t (now (statuses .entry)) (now («status_tickets» .entry))) (sendAnswer (x .answer)) (now (out .exit)) (state (x .session) h t (now (statuses .exit)) (now («status_tickets» .exit)))) ⌝ }
+    ensures { λ x. ⌜ ((h t : List ℕ)
+        → Did (Call.send conn ticket r (now (out .entry)))
+        (state s h t (now (statuses .entry)) (now («status_tickets» .entry)))
+        (sendAnswer (x .answer)) (now (out .exit))
+        (state (x .session) h t (now (statuses .exit)) (now («status_tickets» .exit)))) ⌝ }
 {
     if out.len() < HEADER_BYTES {
         return SendStep {
@@ -114,7 +118,10 @@ pub fn send(
 
 // Acknowledges the statuses of a connection before an ExpStatSN, with their count. NOCONN, CLOSED, STALE.
 pub fn acknowledge(s: Session, conn: u32, exp_stat_sn: u32) -> AcknowledgeStep
-    ensures { λ r. ⌜ ((h t hs ts : List ℕ) → Did (Call.acknowledge conn «exp_stat_sn») (state s h t hs ts) (acknowledgeAnswer (r .answer)) [] (state (r .session) h t hs ts)) ⌝ }
+    ensures { λ r. ⌜ ((h t hs ts : List ℕ)
+        → Did (Call.acknowledge conn «exp_stat_sn»)
+        (state s h t hs ts) (acknowledgeAnswer (r .answer)) []
+        (state (r .session) h t hs ts)) ⌝ }
 {
     match reach(s, conn) {
         Reached::NoConn => AcknowledgeStep {
@@ -210,7 +217,11 @@ pub fn resend(
     status_tickets: &[u32; LEDGER_SLOTS],
     out: &mut [u8],
 ) -> ResendAnswer
-    ensures { λ x. ⌜ ((h t : List ℕ) → Did (Call.resend conn «stat_sn» (now (out .entry))) (state s h t (now (statuses .entry)) (now («status_tickets» .entry))) (resendAnswer x) (now (out .exit)) (state s h t (now (statuses .entry)) (now («status_tickets» .entry)))) ⌝ }
+    ensures { λ x. ⌜ ((h t : List ℕ)
+        → Did (Call.resend conn «stat_sn» (now (out .entry)))
+        (state s h t (now (statuses .entry)) (now («status_tickets» .entry)))
+        (resendAnswer x) (now (out .exit))
+        (state s h t (now (statuses .entry)) (now («status_tickets» .entry)))) ⌝ }
 {
     if out.len() < HEADER_BYTES {
         return ResendAnswer::Refused(Refusal::Buffer);

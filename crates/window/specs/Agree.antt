@@ -3,7 +3,8 @@
 use Prim.Native.Nat.{ℕ, _+_, _*_, _%_, _≤_, min}
 use mathlib.Core.Path.{_≡_}
 use mathlib.Core.List.{List, []}
-use lib.ListN.{length, getD, replicate}
+use lib.ListN.{length, getD, set, replicate}
+use lib.Seq.{paste}
 use Rattle.store.specs.Slot.{headerSize, slotOf}
 use Rattle.window.specs.Bit.{bitAt}
 use Rattle.window.specs.Book.{places, connections, remembered, Origin, none, connection, Place, empty, holds, Book, next, gapless, freshBook, Call, offer, take, logout, Answer, kept, duplicate, passed, beyond, nothing, command, void, loggedOut, bookStep, isFrom, one-if}
@@ -110,19 +111,28 @@ lent (offer n t c h) = []
 lent (take o) = o
 lent (logout c r) = []
 
+-- A kept offer changes the slot of its number, and no other byte of the arrays.
+unfoldable pub Puts : (number ticket : ℕ) → (header : List ℕ) → (headers headers' tickets tickets' : List ℕ) → Type 0
+Puts n t h hs hs' ts ts' = (hs' ≡ paste hs (n % places * headerSize) h headerSize) × (ts' ≡ set ts (n % places) t)
+
+abbrev pub Keeps : Call → State → State → Type 0
+Keeps (offer n t c h) s s' = Puts n t h (s .headers) (s' .headers) (s .tickets) (s' .tickets)
+Keeps (take o) s s' = Unit {0}
+Keeps (logout c r) s s' = Unit {0}
+
 -- What an answer leaves as it was, of whatever state: an offer that is not kept, and a take of nothing, leave all; a
 -- void hand-out leaves the output.
-abbrev pub Stays : Answer → State → State → List ℕ → List ℕ → Type 0
-Stays kept s s' l o = Unit {0}
-Stays duplicate s s' l o = s' ≡ s
-Stays passed s s' l o = s' ≡ s
-Stays beyond s s' l o = s' ≡ s
-Stays nothing s s' l o = (s' ≡ s) × (o ≡ l)
-Stays (command n t w) s s' l o = Unit {0}
-Stays (void n) s s' l o = o ≡ l
-Stays (loggedOut e v) s s' l o = Unit {0}
+abbrev pub Stays : Call → Answer → State → State → List ℕ → List ℕ → Type 0
+Stays call kept s s' l o = Keeps call s s'
+Stays call duplicate s s' l o = s' ≡ s
+Stays call passed s s' l o = s' ≡ s
+Stays call beyond s s' l o = s' ≡ s
+Stays call nothing s s' l o = (s' ≡ s) × (o ≡ l)
+Stays call (command n t w) s s' l o = Unit {0}
+Stays call (void n) s s' l o = o ≡ l
+Stays call (loggedOut e v) s s' l o = Unit {0}
 
 -- The contract of a call.
 pub record Did (call : Call) (s : State) (a : Answer) (o : List ℕ) (s' : State) : Type 0 where
   pub meets : Meets call s a o s'
-  pub stays : Stays a s s' (lent call) o
+  pub stays : Stays call a s s' (lent call) o

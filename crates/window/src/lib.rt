@@ -135,7 +135,10 @@ pub fn offer(
     tickets: &mut [u32; WINDOW_SLOTS],
 ) -> OfferStep
     requires { ⌜ (conn < connections) × (headerSize ≤ length (now pdu)) ⌝ }
-    ensures { λ r. ⌜ Did (Call.offer number ticket conn (take headerSize (now (pdu .entry)))) (state w (now (headers .entry)) (now (tickets .entry))) (offerAnswer (r .answer)) [] (state (r .window) (now (headers .exit)) (now (tickets .exit))) ⌝ }
+    ensures { λ r. ⌜ Did (Call.offer number ticket conn (take headerSize (now (pdu .entry))))
+        (state w (now (headers .entry)) (now (tickets .entry)))
+        (offerAnswer (r .answer)) []
+        (state (r .window) (now (headers .exit)) (now (tickets .exit))) ⌝ }
 {
     let d = std::num::wrapping_sub_u32(number, w.next);
     if PLACES <= d {
@@ -183,7 +186,10 @@ pub fn take(
     out: &mut [u8],
 ) -> TakeStep
     requires { ⌜ headerSize ≤ length (now out) ⌝ }
-    ensures { λ r. ⌜ Did (Call.take (now (out .entry))) (state w (now (headers .entry)) (now (tickets .entry))) (takeAnswer (r .answer)) (now (out .exit)) (state (r .window) (now (headers .entry)) (now (tickets .entry))) ⌝ }
+    ensures { λ r. ⌜ Did (Call.take (now (out .entry)))
+        (state w (now (headers .entry)) (now (tickets .entry)))
+        (takeAnswer (r .answer)) (now (out .exit))
+        (state (r .window) (now (headers .entry)) (now (tickets .entry))) ⌝ }
 {
     if w.held % 2 == 0 {
         return TakeStep {
@@ -263,7 +269,11 @@ fn first_origin(w: Window) -> Origin
 // The effect of a logout of connection conn, with the ExpCmdSN from before it: of the commands that it concerns those
 // before ExpCmdSN become void, or lose their origin with reason 2, and those after are emptied.
 pub fn logout(w: Window, conn: u32, reason: u8) -> LogoutStep
-    ensures { λ r. ⌜ ((h t : List ℕ) → Did (Call.logout conn reason) (state w h t) (Answer.loggedOut (r .emptied) (r .voided)) [] (state (r .window) h t)) ⌝ }
+    ensures { λ r. ⌜ ((h t : List ℕ)
+        → Did (Call.logout conn reason)
+        (state w h t)
+        (Answer.loggedOut (r .emptied) (r .voided)) []
+        (state (r .window) h t)) ⌝ }
 {
     let gapless = map::gapless(w.held);
     let before = map::below(gapless);

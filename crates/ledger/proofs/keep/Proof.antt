@@ -5,11 +5,13 @@ use native.Mathlib.Omega.{arith}
 use borrow.Author.Needs.{needs}
 use lib.ListN.{length, length-set}
 use lib.Seq.{length-paste}
+use Rattle.ledger.specs.Agree.{Puts}
 use Rattle.ledger.proofs.Laws.{stored-agrees, stored-others}
 use Rattle.ledger.proofs.keep.Statement.{statement}
 use Rattle.ledger.proofs.keep.Tie as tie
 
 returns : tie.Need-returns
+unfolding Puts
 returns c =
     let a = c .before .before .before .before .before .args in
     let size : length (a .t4) ≡ 48 = search needs in
@@ -20,6 +22,7 @@ returns c =
       others = λ k m b ne g. stored-others (a .c) k (a .l .next) (a .ticket) (a .t4) (a .headers .now) (a .tickets .now) m b near ne size g;
       headers-size = λ e. length-paste (a .headers .now) ((a .c * 32 + a .l .next % 32) * 48) (a .t4) 48 (omega arith) (omega arith) ∙ e;
       tickets-size = λ e. length-set (a .tickets .now) (a .c * 32 + a .l .next % 32) (a .ticket) ∙ e;
+      puts = (refl, refl);
     })
 
 pub keep-spec : {M : Type 1} → statement M

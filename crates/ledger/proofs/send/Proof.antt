@@ -35,7 +35,7 @@ returns c =
     let no : isStatus (a .r) ≡ false = unset _ _ (c .before .before .before .before .before .before .is-status .ensures) (c .before .before .before .before .before .if1 .taken) in
     rw (c .before .before .put .ensures ∙ front (a .out .now) (made .result) size)
     (sends-unstored (a .c) (a .l) (a .ticket) (a .r) (a .exp-cmd-sn) (a .max-cmd-sn) (a .out .now) (a .headers .now) (a .tickets .now)
-    (made .result) (made .ensures) (λ b g. sending-unstored b (a .r) ok no))
+    (made .result) (made .ensures) no (λ b g. sending-unstored b (a .r) ok no))
 
 returns-2 : tie.Need-returns-2
 returns-2 c =
@@ -61,7 +61,7 @@ returns-4 c =
     let yes = sure _ _ (c .before .before .before .before .before .before .before .before .before .before .before .is-status .ensures) (c .before .before .before .before .before .before .before .before .before .before .if1 .left) in
     rw (c .before .before .before .before .before .put2 .ensures ∙ front (a .out .now) (made .result) size)
     (sends-stored (a .c) (a .l) (a .ticket) (a .r) (a .exp-cmd-sn) (a .max-cmd-sn) (a .out .now) (a .headers .now) (a .tickets .now)
-    (made .result) (made .ensures) _ _ _ (c .keep .ensures)
+    (made .result) (made .ensures) _ _ _ yes size (c .keep .ensures)
     (λ b g. sending-stored b (a .r) ok yes (subst (λ (n : ℕ). n < 32) (g .held) (c .before .before .before .before .before .before .before .before .if2 .left))))
 
 pub send-spec : {M : Type 1} → statement M

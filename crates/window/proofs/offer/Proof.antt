@@ -9,6 +9,7 @@ use mathlib.Core.List.{List, _++_}
 use Rattle.window.specs.Bit.{bitAt}
 use Rattle.window.proofs.Bits.{bit-lt}
 use Rattle.window.specs.Book.{empty}
+use Rattle.window.specs.Agree.{Puts}
 use Rattle.window.proofs.Steps.{met, offer-at, distance-is, step-passed, step-beyond, step-duplicate, step-kept, place-bit, held-none, keep-agrees}
 use borrow.Author.Needs.{needs}
 use Rattle.window.proofs.offer.Statement.{statement}
@@ -63,6 +64,7 @@ returns-3 c =
     }
 
 returns-4 : tie.Need-returns-4
+unfolding Puts
 returns-4 c =
     let a = c .before .before .before .before .before .before .before .before .before .before .args in
     let sub = c .before .before .before .before .before .before .before .before .wrapping-sub-u32 in
@@ -80,7 +82,7 @@ returns-4 c =
           ∙ step-kept b d _ low none)
           (keep-agrees (a .w) _ (a .headers .now) (a .tickets .now) b d (a .number) (a .ticket) (a .conn) (ListN.take 48 (a .pdu .now)) g low (sub .ensures) none size
           refl refl (c .before .before .with-bit .ensures) refl (omega arith) (c .with-origin .ensures)));
-      stays = tt;
+      stays = (c .before .before .before .put .ensures ∙ paste-front (a .headers .now) (a .pdu .now) (a .number % 64 * 48), refl);
     }
 
 pub offer-spec : {M : Type 1} → statement M

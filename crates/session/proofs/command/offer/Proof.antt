@@ -1,9 +1,9 @@
 -- `session::command::offer` meets its contract: each way through the code is one outcome of the book; what is numbered is the window's step.
 use Prim.Native.Nat.{_-_, _≤_}
-use mathlib.Core.Path.{refl, _∙_}
+use mathlib.Core.Path.{sym, refl, _∙_}
 use mathlib.Core.List.{[]}
 use borrow.Author.Needs.{needs}
-use Rattle.session.proofs.Steps.{met, refusing, reach-none, reach-closed, open-at, offer-eq, by-window, offer-live, offer-refused, offer-immediate, offer-numbered, numbered-long}
+use Rattle.session.proofs.Steps.{met, refusing, reach-none, reach-closed, open-at, offer-eq, by-window, offer-live, offer-refused, offer-immediate, offer-numbered, numbered-long, offered-number}
 use Rattle.session.proofs.command.offer.Statement.{statement}
 use Rattle.session.proofs.command.offer.Tie as tie
 
@@ -51,7 +51,7 @@ returns-5 c hs ts =
     let a = c .before .before .before .before .before .before .before .before .before .before .before .before .before .before .args in
     let i = rw (c .before .before .before .before .before .before .before .before .before .before .enum-told3 .given .1) at (c .before .before .before .before .before .before .before .before .before .before .before .before .reach .ensures) in
     let n = rw (c .before .before .before .before .before .before .before .n .given .1) at (c .before .before .before .before .before .before .before .before .before .read-offer .ensures) in
-    by-window _ _ (a .s) hs ts _ _ _ [] refl (c .before .before .offer .ensures) (λ b g.
+    by-window _ _ (a .s) hs ts _ _ _ [] refl (λ k. rw (offered-number (a .pdu .now) _ (sym n)) at k) (c .before .before .offer .ensures) (λ b g.
     let v = open-at (a .s) (a .headers .now) (a .tickets .now) hs ts b (a .conn) _ g i in
     offer-live b (a .conn) (a .ticket) (a .pdu .now) (v .book) _ (v .near) (v .is) n ∙ offer-numbered b (a .conn) (a .ticket) _ (a .pdu .now))
 

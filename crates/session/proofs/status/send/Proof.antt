@@ -57,7 +57,7 @@ returns-5 c h t =
     let w = c .before .before .before .before .before .send .ensures in
     let f = c .before .n .given in
     let stays = rw (f .1) at (w .stays) in
-    rw (stays .0, stays .1) (record {
+    rw (stays .1, stays .2) (record {
       meets = λ b g.
           let v = open-at (a .s) h t (a .statuses .now) (a .status-tickets .now) b (a .conn) _ g i in
           let m = w .meets (v .book) (v .agrees) in
@@ -67,7 +67,7 @@ returns-5 c h t =
           ∙ send-unstored b (a .conn) (a .ticket) (a .r) (a .out .now) (v .book) _ _ _
           (c .before .before .before .before .before .before .before .before .before .before .exp-cmd-sn .ensures h t (b .window) (g .window)) (c .before .before .before .before .before .before .before .before .before .max-cmd-sn .ensures h t (b .window) (g .window))
           (m .bytes) _ (rw (f .1) at (m .answer))) g;
-      stays = tt;
+      stays = rw (stays .0);
     })
 
 returns-6 : tie.Need-returns-6
@@ -77,6 +77,7 @@ returns-6 c h t =
     let i = rw (c .before .before .before .before .before .before .before .before .before .before .before .before .before .before .l .given .1) at (c .before .before .before .before .before .before .before .before .before .before .before .before .before .before .before .before .reach .ensures) in
     let w = c .before .before .before .before .before .before .send .ensures in
     let f = c .before .before .stat-sn .given in
+    let stays = rw (f .1) at (w .stays) in
     rw (c .with-ledger .ensures) (record {
       meets = λ b g.
           let v = open-at (a .s) h t (a .statuses .now) (a .status-tickets .now) b (a .conn) _ g i in
@@ -89,7 +90,7 @@ returns-6 c h t =
           (m .bytes) _ (rw (f .1) at (m .answer)))
           (conn-set (a .s) h t (a .statuses .now) (a .status-tickets .now) _ _ b (a .conn) _ _ g (v .near) (rw (f .1) at (m .agrees))
           (λ j y q n z. w .others j y q n z) (w .headers-size (g .statuses-size)) (w .tickets-size (g .tickets-size)));
-      stays = tt;
+      stays = rw (stays .0) (stays .1);
     })
 
 pub send-spec : {M : Type 1} → statement M
