@@ -1,15 +1,15 @@
 -- A settled value lies in its key's range: the offer does, ours does (one test over the table), and each rule stays between them.
-use mathlib.Core.Path.{_≡_, refl, sym, ap, _∙_}
+use mathlib.Core.Path.{_≡_, refl}
 use mathlib.Core.Bool.{Bool, true, false, not, _&&_, _||_}
 use mathlib.Core.List.{List}
-use Prim.Native.Nat.{ℕ, _<_, _≤_}
+use Prim.Native.Nat.{ℕ, _<_}
 use native.Mathlib.Omega.{arith}
 use borrow.Author.Tests.{leb-true, ltb-false, eqb-true}
 use lib.Dec.{eqb, ltb, leb}
 use Rattle.text.specs.Text.{pick}
 use Rattle.text.specs.declared.number.Number.{Number}
 use Rattle.text.specs.declared.number.Number.the-variants as N
-use Rattle.text.proofs.Laws.{below, at, &&-left, &&-right, false-true}
+use Rattle.text.proofs.Laws.{below, at, &&-left, &&-right}
 use Rattle.keys.specs.Table.{rows, rowAt}
 use Rattle.keys.specs.Settle.{In, isBool, boolOf, ranged, offered, settledBy, settlingOffer, settling}
 use Rattle.text.specs.Number.{numberOf}

@@ -6,11 +6,10 @@ use native.Mathlib.Omega.{arith}
 use lib.ListN.{length, length-append}
 use Rattle.text.specs.Text.{pick}
 use Rattle.text.proofs.Laws.{decimal-length}
-use Rattle.keys.specs.Answer.{replyBytes, isSilent, answerText, saidText}
+use Rattle.keys.specs.Answer.{replyBytes, isSilent, answerText, replyIn, saidText}
 use Rattle.keys.specs.declared.value.Reply.{Reply}
 use Rattle.keys.specs.declared.value.Reply.the-variants as A
 use Rattle.keys.specs.declared.value.Judgement.{Judgement}
-use Rattle.keys.specs.declared.value.Judgement.the-variants as J
 
 pub reply-length : (r : Reply) → length (replyBytes r) ≤ 13
 unfolding replyBytes
@@ -32,6 +31,4 @@ unfolding answerText
 answer-length n r h = pair-length (isSilent r) n (replyBytes r) h (reply-length r)
 
 pub said-length : (n : List ℕ) (j : Judgement) → length n ≤ 63 → length (saidText n j) ≤ 78
-said-length n (J.Refused s) h = omega arith
-said-length n (J.Said r) h = answer-length n r h
-said-length n (J.Settles x r) h = answer-length n r h
+said-length n j h = answer-length n (replyIn j) h

@@ -2,7 +2,7 @@
 use mathlib.Core.Path.{_≡_, refl, sym, ap, _∙_}
 use mathlib.Core.Bool.{Bool, true, false, _&&_, _||_}
 use mathlib.Core.List.{List, [], _∷_, map}
-use Prim.Native.Nat.{ℕ, zero, suc, _+_, _-_, _<_, _≤_}
+use Prim.Native.Nat.{ℕ, zero, suc, _+_, _*_, _-_, _<_, _≤_}
 use lib.ListN.{take, drop, getD, length, drop-of-length-le}
 use lib.Seq.{drop-cons}
 use native.Mathlib.Numerals.{add-one}
@@ -19,43 +19,40 @@ use Rattle.keys.specs.declared.table.Rule.the-variants as R
 use Rattle.keys.specs.declared.table.Row.{Row}
 
 -- The names.
-abbrev starts : List ℕ
-starts = 0 ∷ 14 ∷ 31 ∷ 41 ∷ 55 ∷ 74 ∷ 87 ∷ 111 ∷ 125 ∷ 141 ∷ 157 ∷ 175 ∷ 193 ∷ 205 ∷ 215 ∷ 228 ∷ 238 ∷ 251 ∷ 261 ∷ 272 ∷ 286 ∷ 294 ∷ 302 ∷ 311 ∷ 320 ∷ 331 ∷ 344 ∷ 364 ∷ 375 ∷ []
+abbrev lengths : List ℕ
+lengths = 14 ∷ 17 ∷ 10 ∷ 14 ∷ 19 ∷ 13 ∷ 24 ∷ 14 ∷ 16 ∷ 16 ∷ 18 ∷ 18 ∷ 12 ∷ 10 ∷ 13 ∷ 10 ∷ 13 ∷ 10 ∷ 11 ∷ 14 ∷ 8 ∷ 8 ∷ 9 ∷ 9 ∷ 11 ∷ 13 ∷ 20 ∷ 11 ∷ []
 
 abbrev text : List ℕ
-text = bytes "MaxConnectionsMaxOutstandingR2TInitialR2TDataPDUInOrderDataSequenceInOrderImmediateDataMaxRecvDataSegmentLengthMaxBurstLengthFirstBurstLengthDefaultTime2WaitDefaultTime2RetainErrorRecoveryLevelHeaderDigestDataDigestTaskReportingAuthMethodInitiatorNameTargetNameSessionTypeInitiatorAliasIFMarkerOFMarkerIFMarkIntOFMarkIntTargetAliasTargetAddressTargetPortalGroupTagSendTargets"
-
-rising : ℕ → Bool
-rising k = leb (getD starts k 0) (getD starts (k + 1) 0)
+text = bytes "MaxConnections..........MaxOutstandingR2T.......InitialR2T..............DataPDUInOrder..........DataSequenceInOrder.....ImmediateData...........MaxRecvDataSegmentLengthMaxBurstLength..........FirstBurstLength........DefaultTime2Wait........DefaultTime2Retain......ErrorRecoveryLevel......HeaderDigest............DataDigest..............TaskReporting...........AuthMethod..............InitiatorName...........TargetName..............SessionType.............InitiatorAlias..........IFMarker................OFMarker................IFMarkInt...............OFMarkInt...............TargetAlias.............TargetAddress...........TargetPortalGroupTag....SendTargets............."
 
 within : ℕ → Bool
-within k = leb (getD starts (k + 1) 0) 375
+within k = leb (k * 24 + getD lengths k 0) 672
 
 equal : ℕ → Bool
-equal k = same (take (getD starts (k + 1) 0 - getD starts k 0) (drop (getD starts k 0) text)) (nameAt k)
+equal k = same (take (k * 24 + getD lengths k 0 - k * 24) (drop (k * 24) text)) (nameAt k)
+
+long : ℕ → Bool
+long k = eqb (length (nameAt k)) (getD lengths k 0)
 
 right : ℕ → Bool
-right k = (rising k && within k) && equal k
+right k = within k && (equal k && long k)
 
 names : below right 28 ≡ true
-unfolding right rising within equal nameAt known same
+unfolding right within equal long nameAt known same
 names = refl
 
 module _ (k : ℕ) (h : k < 28) where
-  whole : right k ≡ true
-  whole = at right 28 names k h
-
-  pub ordered : getD starts k 0 ≤ getD starts (k + 1) 0
-  unfolding right rising
-  ordered = leb-true _ _ (&&-left (rising k) (within k) (&&-left (rising k && within k) (equal k) whole))
-
-  pub inside : getD starts (k + 1) 0 ≤ 375
+  pub inside : k * 24 + getD lengths k 0 ≤ 672
   unfolding right within
-  inside = leb-true _ _ (&&-right (rising k) (within k) (&&-left (rising k && within k) (equal k) whole))
+  inside = leb-true _ _ (&&-left (within k) _ (at right 28 names k h))
 
-  pub named : take (getD starts (k + 1) 0 - getD starts k 0) (drop (getD starts k 0) text) ≡ nameAt k
+  pub named : take (k * 24 + getD lengths k 0 - k * 24) (drop (k * 24) text) ≡ nameAt k
   unfolding right equal
-  named = same-eq _ _ (&&-right (rising k && within k) (equal k) whole)
+  named = same-eq _ _ (&&-left (equal k) (long k) (&&-right (within k) _ (at right 28 names k h)))
+
+  pub name-length : length (nameAt k) ≡ getD lengths k 0
+  unfolding right long
+  name-length = eqb-true _ _ (&&-right (equal k) (long k) (&&-right (within k) _ (at right 28 names k h)))
 
 -- One turn of the search for a name.
 module _ (n : List ℕ) (k : ℕ) (h : k < 28) where

@@ -34,7 +34,11 @@ isSilent (A.Number n) = false
 unfoldable pub answerText : List ℕ → Reply → List ℕ
 answerText n r = pick (isSilent r) [] (((n ++ (61 ∷ [])) ++ replyBytes r) ++ (0 ∷ []))
 
+-- a refused pair gets none
+abbrev pub replyIn : Judgement → Reply
+replyIn (J.Refused status) = A.Silent
+replyIn (J.Said r) = r
+replyIn (J.Settles x r) = r
+
 abbrev pub saidText : List ℕ → Judgement → List ℕ
-saidText n (J.Refused status) = []
-saidText n (J.Said r) = answerText n r
-saidText n (J.Settles x r) = answerText n r
+saidText n j = answerText n (replyIn j)

@@ -7,7 +7,7 @@ ghost use mathlib.Core.Path.{_≡_};
 ghost use Prim.Native.Nat.{_+_, _≤_};
 ghost use lib.ListN.{length};
 ghost use Rattle.text.specs.Text.{Appended};
-ghost use Rattle.keys.specs.Answer.{isSilent, replyBytes, answerText, saidText};
+ghost use Rattle.keys.specs.Answer.{isSilent, replyBytes, replyIn, saidText};
 
 fn is_silent(r: Reply) -> bool
     ensures { λ b. ⌜ b ≡ isSilent r ⌝ }
@@ -40,11 +40,23 @@ fn put_reply(out: &mut [u8], at: usize, r: Reply) -> usize
     }
 }
 
-// The answered pair: the name, =, the reply and a zero byte; nothing for a good declaration.
-fn put_pair(out: &mut [u8], at: usize, name: &[u8], r: Reply) -> usize
-    requires { ⌜ (length (now name) ≤ 63) × (at + 78 ≤ length (now out)) ⌝ }
-    ensures { λ n. ⌜ Appended (now (out .entry)) at (answerText (now (name .entry)) r) (now (out .exit)) n ⌝ }
+// What a judged pair is answered: nothing where it is refused.
+fn reply_in(j: Judgement) -> Reply
+    ensures { λ r. ⌜ r ≡ replyIn j ⌝ }
 {
+    match j {
+        Judgement::Refused(_) => Reply::Silent,
+        Judgement::Said(r) => r,
+        Judgement::Settles(_, r) => r,
+    }
+}
+
+// What a judged pair adds to the answer: the name, =, the reply and a zero byte; nothing for a good declaration.
+pub fn put_said(out: &mut [u8], at: usize, name: &[u8], j: Judgement) -> usize
+    requires { ⌜ (length (now name) ≤ 63) × (at + 78 ≤ length (now out)) ⌝ }
+    ensures { λ n. ⌜ Appended (now (out .entry)) at (saidText (now (name .entry)) j) (now (out .exit)) n ⌝ }
+{
+    let r = reply_in(j);
     if is_silent(r) {
         return append(out, at, b"");
     }
@@ -52,16 +64,4 @@ fn put_pair(out: &mut [u8], at: usize, name: &[u8], r: Reply) -> usize
     let b = append(out, a, b"=");
     let d = put_reply(out, b, r);
     append(out, d, b"\0")
-}
-
-// What a judged pair adds to the answer.
-pub fn put_said(out: &mut [u8], at: usize, name: &[u8], j: Judgement) -> usize
-    requires { ⌜ (length (now name) ≤ 63) × (at + 78 ≤ length (now out)) ⌝ }
-    ensures { λ n. ⌜ Appended (now (out .entry)) at (saidText (now (name .entry)) j) (now (out .exit)) n ⌝ }
-{
-    match j {
-        Judgement::Refused(_) => append(out, at, b""),
-        Judgement::Said(r) => put_pair(out, at, name, r),
-        Judgement::Settles(_, r) => put_pair(out, at, name, r),
-    }
 }

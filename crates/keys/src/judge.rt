@@ -11,13 +11,20 @@ use text::slice::same_bytes;
 ghost use mathlib.Core.Path.{_≡_};
 ghost use Prim.Native.Nat.{_≤_, _<_};
 ghost use Rattle.keys.specs.Table.{kindAt};
-ghost use Rattle.keys.specs.Judge.{initiatorName, targetName, sessionType, digest, taskReporting, authMethod, judgeBy, stands, leadingOnly, judgeKey, judgeAt, marked, after};
+ghost use Rattle.keys.specs.Judge.{goodLength, initiatorName, targetName, sessionType, digest, taskReporting, authMethod, judgeBy, stands, leadingOnly, judgeKey, judgeAt, marked, after};
+
+// InitiatorName and TargetName have 1 to 223 bytes.
+fn length_good(v: &[u8]) -> bool
+    ensures { λ r. ⌜ r ≡ goodLength (now (v .entry)) ⌝ }
+{
+    let n = v.len();
+    (1 <= n) & (n <= 223)
+}
 
 fn initiator_name(v: &[u8]) -> Judgement
     ensures { λ r. ⌜ r ≡ initiatorName (now (v .entry)) ⌝ }
 {
-    let n = v.len();
-    if (1 <= n) & (n <= 223) {
+    if length_good(v) {
         Judgement::Said(Reply::Silent)
     } else {
         Judgement::Refused(0x0200)
@@ -27,8 +34,7 @@ fn initiator_name(v: &[u8]) -> Judgement
 fn target_name(ours: &[u8], v: &[u8]) -> Judgement
     ensures { λ r. ⌜ r ≡ targetName (now (ours .entry)) (now (v .entry)) ⌝ }
 {
-    let n = v.len();
-    if (1 <= n) & (n <= 223) {
+    if length_good(v) {
         if same_bytes(v, ours) {
             Judgement::Said(Reply::Silent)
         } else {

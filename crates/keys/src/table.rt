@@ -45,41 +45,12 @@ pub struct Row {
 
 pub const KNOWN: usize = 28;
 
-const NAMES: [u8; 375] =
-    *b"MaxConnectionsMaxOutstandingR2TInitialR2TDataPDUInOrderDataSequenceInOrderImmediateDataMaxRecvDataSegmentLengthMaxBurstLengthFirstBurstLengthDefaultTime2WaitDefaultTime2RetainErrorRecoveryLevelHeaderDigestDataDigestTaskReportingAuthMethodInitiatorNameTargetNameSessionTypeInitiatorAliasIFMarkerOFMarkerIFMarkIntOFMarkIntTargetAliasTargetAddressTargetPortalGroupTagSendTargets";
+// Name k is the first LENGTHS[k] bytes of the 24 that begin at 24 * k.
+const NAMES: [u8; 672] =
+    *b"MaxConnections..........MaxOutstandingR2T.......InitialR2T..............DataPDUInOrder..........DataSequenceInOrder.....ImmediateData...........MaxRecvDataSegmentLengthMaxBurstLength..........FirstBurstLength........DefaultTime2Wait........DefaultTime2Retain......ErrorRecoveryLevel......HeaderDigest............DataDigest..............TaskReporting...........AuthMethod..............InitiatorName...........TargetName..............SessionType.............InitiatorAlias..........IFMarker................OFMarker................IFMarkInt...............OFMarkInt...............TargetAlias.............TargetAddress...........TargetPortalGroupTag....SendTargets.............";
 
-// Name k is bytes STARTS[k] up to STARTS[k + 1] of NAMES.
-const STARTS: [usize; 29] = [
-    0,
-    14,
-    31,
-    41,
-    55,
-    74,
-    87,
-    111,
-    125,
-    141,
-    157,
-    175,
-    193,
-    205,
-    215,
-    228,
-    238,
-    251,
-    261,
-    272,
-    286,
-    294,
-    302,
-    311,
-    320,
-    331,
-    344,
-    364,
-    375,
-];
+const LENGTHS: [u8; 28] =
+    *b"\x0e\x11\x0a\x0e\x13\x0d\x18\x0e\x10\x10\x12\x12\x0c\x0a\x0d\x0a\x0d\x0a\x0b\x0e\x08\x08\x09\x09\x0b\x0d\x14\x0b";
 
 // The table of twelve keys, in the order of their names; its standard values and ours are those of Parameters.
 const RULES: [Rule; 12] = [
@@ -147,14 +118,26 @@ pub fn kind_of(k: usize) -> Kind
     }
 }
 
-// The name is that of key k.
+// The name is that of key k, compared whole.
+fn same_name(name: &[u8], k: usize) -> bool
+    requires { ⌜ k < 28 ⌝ }
+    ensures { λ r. ⌜ r ≡ same (now (name .entry)) (nameAt k) ⌝ }
+{
+    let a = k * 24;
+    let e = a + LENGTHS[k] as usize;
+    same_bytes(name, &NAMES[a..e])
+}
+
+// The same, by its length first: the table of names is touched only for a name as long as key k's.
 fn is_name(name: &[u8], k: usize) -> bool
     requires { ⌜ k < 28 ⌝ }
     ensures { λ r. ⌜ r ≡ same (now (name .entry)) (nameAt k) ⌝ }
 {
-    let a = STARTS[k];
-    let e = STARTS[k + 1];
-    same_bytes(name, &NAMES[a..e])
+    let n = LENGTHS[k] as usize;
+    if name.len() != n {
+        return false;
+    }
+    same_name(name, k)
 }
 
 // The key that bears this name, KNOWN where none does.

@@ -8,8 +8,8 @@ use lib.ListN.{length, drop, take}
 use lib.Seq.{take-at, length-take-le}
 use Rattle.header.specs.declared.request.Login.{Login}
 use Rattle.keys.specs.declared.parameters.Settled.{Settled}
-use Rattle.login.specs.Login.{startText, answerOf, isRefused, gatherAfter, withGather, settledLogin, Outcome, Texted, accept}
-use Rattle.login.specs.Code.{acceptStep}
+use Rattle.login.specs.Login.{startText, answerOf, isRefused, gatherAfter, withGather, settledLogin, Outcome, Texted, accept, kindStep}
+use Rattle.login.specs.Code.{acceptStep, loginIn, foundStep}
 use Rattle.login.specs.Block.{judge, JudgedAs}
 use Rattle.login.specs.declared.state.State.{State}
 use Rattle.login.specs.declared.block.Verdict.{Verdict}
@@ -22,6 +22,8 @@ use Rattle.header.specs.Request.{readPdu, judged, known, opcodeOf, dataLengthOf
 use Rattle.header.specs.declared.refusal.Refusal.{Refusal}
 use Rattle.header.specs.declared.refusal.Refusal.the-variants as F
 use Rattle.header.specs.declared.request.Pdu.{Pdu}
+use Rattle.header.specs.declared.request.Request.{Request}
+use Rattle.header.specs.declared.request.Request.the-variants as R
 use Rattle.header.specs.declared.request.Limits.{Limits}
 use Rattle.header.specs.declared.request.ReadAnswer.the-variants as G
 use Rattle.login.specs.declared.state.Answer.{Answer}
@@ -98,3 +100,12 @@ status-go m s F.Snack e = refl
 
 pub reading-status : (m : Limits) (s : List ℕ) (f : Refusal) → Read.answerOf (G.Refused f) ≡ readPdu m s → status f ≡ 0
 reading-status m s f e = status-go m s f (sym e)
+
+-- What is done with the Login that was found is what is done with the request.
+pub found-is : (r : Request) (l : State) (d : List ℕ) (live new : ℕ) (ours g t : List ℕ) → foundStep (loginIn r) l d live new ours g t ≡ kindStep r l d live new ours g t
+found-is (R.NopOut x) l d live new ours g t = refl
+found-is (R.ScsiCommand x) l d live new ours g t = refl
+found-is (R.TaskManagement x) l d live new ours g t = refl
+found-is (R.Login q) l d live new ours g t = refl
+found-is (R.Logout x) l d live new ours g t = refl
+found-is (R.Snack x) l d live new ours g t = refl

@@ -3,10 +3,10 @@
 use mathlib.Core.Path.{_≡_, refl, sym, ap, _∙_, subst}
 use mathlib.Core.Bool.{Bool, true, false, not, _&&_, _||_}
 use mathlib.Core.List.{List, [], _∷_, _++_, List·Memᴰ, List·Memᴰ·head, List·Memᴰ·tail}
-use Prim.Native.Nat.{ℕ, zero, suc, _+_, _*_, _<_, _≤_}
+use Prim.Native.Nat.{ℕ, _+_, _<_}
 use native.Mathlib.Omega.{arith}
-use borrow.Author.Tests.{eq-eqb, ne-eqb, eqb-true, eqb-false, not-true, not-false}
-use lib.ListN.{length, getD, take, drop}
+use borrow.Author.Tests.{ne-eqb, eqb-true, eqb-false, not-true, not-false}
+use lib.ListN.{length, getD, take}
 use lib.Dec.{eqb, ltb}
 use Rattle.header.specs.Request.{readPdu, limits, dataOf}
 use Rattle.header.specs.Request as Read
@@ -22,8 +22,8 @@ use Rattle.keys.specs.Table.{standards, rows, rowAt, keyOf}
 use Rattle.keys.specs.declared.parameters.Settled.{Settled}
 use Rattle.keys.proofs.Ranges.{settled-in}
 use Rattle.login.specs.Block.{judge, Result, stopped, went}
-use Rattle.login.specs.Login.{Answer, refused, answered, Outcome, Texted, refuse, fail, Check, check, checks, firstBroken, statusOf, permitted, joined, gatherStep, startText, named, handle, stageAfter, settledLogin, accept, failText, finish, textStep, withGather, judgeStep, requestStep, kindStep, readStep, loginStep, freshLogin}
-use Rattle.login.specs.Demand.{named3, asks, asksIn, accepted, enters, Cause, check-broken, form-broken, pair-refused, names-lacking, blockIn, inForce, valueAfter, judgedOf, judgedIn, textOf, isSix, Promised, Call, stepOf, loginAfter, offersIn, taken, Demand}
+use Rattle.login.specs.Login.{Answer, refused, Outcome, Texted, refuse, fail, Check, checks, firstBroken, statusOf, permitted, joined, gatherStep, startText, named, accept, finish, textStep, withGather, judgeStep, requestStep, kindStep, readStep, loginStep, freshLogin}
+use Rattle.login.specs.Demand.{asks, accepted, Cause, check-broken, form-broken, pair-refused, names-lacking, blockIn, inForce, valueAfter, judgedOf, judgedIn, Promised, Call, stepOf, loginAfter, offersIn, taken, Demand}
 use Rattle.login.specs.declared.state.State.{State}
 use Rattle.login.proofs.Area.{status-kept}
 use Rattle.login.proofs.Answers.{reading, start-length}

@@ -1,16 +1,18 @@
 -- The table of permitted steps in the code: one test, computed over both stages.
 use mathlib.Core.Path.{_≡_, refl}
 use mathlib.Core.Bool.{Bool, true, false}
-use mathlib.Core.List.{List, [], _∷_}
+use mathlib.Core.List.{List}
 use Prim.Native.Nat.{ℕ, _+_, _*_, _<_, _≤_}
 use native.Mathlib.Omega.{arith}
 use borrow.Author.Tests.{ne-eqb}
 use lib.ListN.{getD}
+use lib.Dec.{eqb}
+use Rattle.text.specs.Text.{bytes}
 use Rattle.text.proofs.Laws.{below, at, &&-false}
 use Rattle.login.specs.Login.{permitted}
 
-abbrev pub steps : List Bool
-steps = false ∷ true ∷ false ∷ true ∷ false ∷ false ∷ false ∷ true ∷ false ∷ false ∷ false ∷ false ∷ false ∷ false ∷ false ∷ false ∷ true ∷ true ∷ false ∷ false ∷ []
+abbrev pub steps : List ℕ
+steps = bytes "-y-y---y--------yy--"
 
 abbrev iff : Bool → Bool → Bool
 iff true b = b
@@ -24,7 +26,7 @@ iff-eq false true e = cc
 iff-eq false false e = refl
 
 right : ℕ → ℕ → Bool
-right a b = iff (getD steps (a * 4 + b) false) (permitted a b)
+right a b = iff (eqb (getD steps (a * 4 + b) 0) 121) (permitted a b)
 
 row : ℕ → Bool
 row a = below (right a) 4
@@ -33,9 +35,9 @@ table : below row 5 ≡ true
 unfolding row right permitted
 table = refl
 
-pub step-right : (a b : ℕ) → a < 5 → b < 4 → getD steps (a * 4 + b) false ≡ permitted a b
+pub step-right : (a b : ℕ) → a < 5 → b < 4 → eqb (getD steps (a * 4 + b) 0) 121 ≡ permitted a b
 unfolding right row
-step-right a b p q = iff-eq (getD steps (a * 4 + b) false) (permitted a b) (at (right a) 4 (at row 5 table a p) b q)
+step-right a b p q = iff-eq (eqb (getD steps (a * 4 + b) 0) 121) (permitted a b) (at (right a) 4 (at row 5 table a p) b q)
 
 pub from-none : (a b : ℕ) → 5 ≤ a → permitted a b ≡ false
 unfolding permitted

@@ -4,18 +4,17 @@ use mathlib.Core.Bool.{Bool, true, false, not, _&&_, _||_}
 use mathlib.Core.List.{List, [], _∷_, _++_}
 use Prim.Native.Nat.{ℕ, zero, suc, _+_, _*_, _<_, _≤_}
 use native.Mathlib.Omega.{arith}
-use borrow.Author.Tests.{eq-eqb, ne-eqb, eqb-true, eqb-false}
+use borrow.Author.Tests.{ne-eqb, eqb-true, eqb-false}
 use lib.ListN.{length, getD, set, length-set, length-append}
 use lib.Seq.{getD-set-same, getD-set-other}
 use lib.Dec.{eqb}
 use Rattle.text.specs.Text.{pick}
 use Rattle.text.specs.Block.{Pair, nameIn, valueIn, restOf, goodFirst, formed, pairs, empty}
-use Rattle.text.proofs.Laws.{&&-left, &&-right, false-true, name-short, past}
+use Rattle.text.proofs.Laws.{&&-left, &&-right, name-short}
 use Rattle.keys.specs.Table.{keyOf, kindAt, rowAt, known}
 use Rattle.keys.specs.Settle.{settling}
-use Rattle.keys.specs.Judge.{judgeBy, stands, leadingOnly, judgeKey, judgeAt, afterKey, after}
+use Rattle.keys.specs.Judge.{judgeBy, stands, leadingOnly, judgeKey, judgeAt, after}
 use Rattle.keys.specs.Answer.{saidText}
-use Rattle.keys.specs.declared.table.Kind.the-variants as K
 use Rattle.keys.specs.declared.value.Judgement.{Judgement}
 use Rattle.keys.specs.declared.value.Judgement.the-variants as J
 use Rattle.keys.specs.declared.parameters.Settled.{Settled}

@@ -8,8 +8,12 @@ use Rattle.text.specs.Text.{pick}
 use Rattle.header.specs.declared.refusal.Refusal.{Refusal}
 use Rattle.header.specs.declared.refusal.Refusal.the-variants as F
 use Rattle.header.specs.declared.request.Login.{Login}
+use Rattle.header.specs.declared.request.Request.{Request}
+use Rattle.header.specs.declared.request.Request.the-variants as R
+use Rattle.login.specs.declared.request.Found.{Found}
+use Rattle.login.specs.declared.request.Found.the-variants as N
 use Rattle.keys.specs.declared.parameters.Settled.{Settled}
-use Rattle.login.specs.Login.{ended, handle, stageAfter, settledLogin, joined}
+use Rattle.login.specs.Login.{ended, handle, stageAfter, settledLogin, joined, Outcome, refuse, requestStep}
 use Rattle.login.specs.declared.state.State.{State}
 use Rattle.login.specs.declared.state.Step.{Step}
 use Rattle.login.specs.declared.state.Answer.the-variants as W
@@ -37,3 +41,16 @@ pub record Joined (g : List ℕ) (at : ℕ) (d new kept : List ℕ) (r : ℕ) : 
   pub count : r ≡ at + length d
   pub area : new ≡ joined g at d
   pub old : take (length d) kept ≡ take (length d) (drop at g)
+
+-- the Login that a request is; FIELD where it is none
+abbrev pub loginIn : Request → Found
+loginIn (R.NopOut x) = N.Other
+loginIn (R.ScsiCommand x) = N.Other
+loginIn (R.TaskManagement x) = N.Other
+loginIn (R.Login q) = N.Login q
+loginIn (R.Logout x) = N.Other
+loginIn (R.Snack x) = N.Other
+
+abbrev pub foundStep : Found → State → List ℕ → ℕ → ℕ → List ℕ → List ℕ → List ℕ → Outcome
+foundStep N.Other l d live new ours g t = refuse l 3 g t
+foundStep (N.Login q) l d live new ours g t = requestStep l q d live new ours g t

@@ -11,29 +11,8 @@ pub const MAX_TEXT: usize = 8192;
 // No stage yet.
 const START: u8 = 4;
 
-// The permitted steps: a row for each of the stages 0 to 3 and for the start, a column for the stage that is stepped to.
-const STEPS: [bool; 20] = [
-    false,
-    true,
-    false,
-    true,
-    false,
-    false,
-    false,
-    true,
-    false,
-    false,
-    false,
-    false,
-    false,
-    false,
-    false,
-    false,
-    true,
-    true,
-    false,
-    false,
-];
+// The permitted steps: a row of four for each of the stages 0 to 3 and for the start, y in the column of a stage that may be stepped to.
+const STEPS: [u8; 20] = *b"-y-y---y--------yy--";
 
 fn step_permitted(from: u8, to: u8) -> bool
     ensures { λ r. ⌜ r ≡ permitted from to ⌝ }
@@ -41,7 +20,7 @@ fn step_permitted(from: u8, to: u8) -> bool
     if from < 5 {
         if to < 4 {
             let i = from as usize * 4 + to as usize;
-            STEPS[i]
+            STEPS[i] == b'y'
         } else {
             false
         }

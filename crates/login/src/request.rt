@@ -18,8 +18,8 @@ use text::slice::append;
 ghost use mathlib.Core.Path.{_≡_};
 ghost use Prim.Native.Nat.{_≤_};
 ghost use lib.ListN.{length};
-ghost use Rattle.login.specs.Login.{answerOf, Outcome, requestStep, kindStep, loginStep};
-ghost use Rattle.login.specs.Code.{refuseStep};
+ghost use Rattle.login.specs.Login.{answerOf, Outcome, requestStep, loginStep};
+ghost use Rattle.login.specs.Code.{refuseStep, loginIn, foundStep};
 
 // A refusal that leaves the login as it was.
 fn refuse(l: State, why: Refusal) -> Step
@@ -60,10 +60,29 @@ fn request_step(
     judge_request(l, q, piece, new, ours, gather, text)
 }
 
-// A request that was read.
+// The Login that a read request is.
+pub enum Found {
+    Login(Login),
+    Other,
+}
+
+fn login_in(r: Request) -> Found
+    ensures { λ f. ⌜ f ≡ loginIn r ⌝ }
+{
+    match r {
+        Request::Login(q) => Found::Login(q),
+        Request::NopOut(_) => Found::Other,
+        Request::ScsiCommand(_) => Found::Other,
+        Request::TaskManagement(_) => Found::Other,
+        Request::Logout(_) => Found::Other,
+        Request::Snack(_) => Found::Other,
+    }
+}
+
+// A request that was read: FIELD where it is no Login.
 fn kind_step(
     l: State,
-    r: Request,
+    f: Found,
     piece: &[u8],
     live: u16,
     new: u16,
@@ -72,15 +91,11 @@ fn kind_step(
     text: &mut [u8],
 ) -> Step
     requires { ⌜ (8192 ≤ length (now gather)) × (8192 ≤ length (now text)) ⌝ }
-    ensures { λ s. ⌜ _≡_ {A = Outcome} (record { state = s .state; answer = answerOf (s .answer) (now (text .exit)); gather = now (gather .exit); text = now (text .exit) }) (kindStep r l (now (piece .entry)) live new (now (ours .entry)) (now (gather .entry)) (now (text .entry))) ⌝ }
+    ensures { λ s. ⌜ _≡_ {A = Outcome} (record { state = s .state; answer = answerOf (s .answer) (now (text .exit)); gather = now (gather .exit); text = now (text .exit) }) (foundStep f l (now (piece .entry)) live new (now (ours .entry)) (now (gather .entry)) (now (text .entry))) ⌝ }
 {
-    match r {
-        Request::Login(q) => request_step(l, q, piece, live, new, ours, gather, text),
-        Request::NopOut(_) => refuse(l, Refusal::Field),
-        Request::ScsiCommand(_) => refuse(l, Refusal::Field),
-        Request::TaskManagement(_) => refuse(l, Refusal::Field),
-        Request::Logout(_) => refuse(l, Refusal::Field),
-        Request::Snack(_) => refuse(l, Refusal::Field),
+    match f {
+        Found::Login(q) => request_step(l, q, piece, live, new, ours, gather, text),
+        Found::Other => refuse(l, Refusal::Field),
     }
 }
 
@@ -111,7 +126,8 @@ pub fn login_request(
         ReadAnswer::Refused(why) => refuse(l, why),
         ReadAnswer::Got(p) => {
             let r = p.request;
-            kind_step(l, r, data_of(pdu, p), live, new, ours, gather, text)
+            let f = login_in(r);
+            kind_step(l, f, data_of(pdu, p), live, new, ours, gather, text)
         }
     }
 }

@@ -1,16 +1,17 @@
 use Rattle.keys.specs.Judge.{initiatorName}
 use Prim.Native.Nat.{_-_}
+use borrow.Author.Needs.{needs}
 use Rattle.keys.proofs.judge.initiator_name.Statement.{statement}
 use Rattle.keys.proofs.judge.initiator_name.Tie as tie
 
 returns : tie.Need-returns
 unfolding initiatorName
-returns c = rw (c .if1 .taken)
+returns c = rw (← (c .before .length-good .ensures), c .if1 .taken)
 
 returns-2 : tie.Need-returns-2
 unfolding initiatorName
-returns-2 c = rw (c .if1 .left)
+returns-2 c = rw (← (c .before .length-good .ensures), c .if1 .left)
 
 pub initiator-name-spec : {M : Type 1} → statement M
 initiator-name-spec = tie.close (tie.spec
-    returns returns-2)
+    (λ c κs. search needs) returns returns-2)

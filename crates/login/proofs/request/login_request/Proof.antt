@@ -1,7 +1,7 @@
 use Rattle.text.proofs.Laws.{past, here}
 use Rattle.header.specs.Request as Read
 use Rattle.login.specs.Login.{loginStep}
-use Rattle.login.proofs.Answers.{reading-status}
+use Rattle.login.proofs.Answers.{reading-status, found-is}
 use mathlib.Core.Path.{sym, ap, _∙_}
 use Prim.Native.Nat.{_-_}
 use borrow.Author.Tests.{lt-ltb, le-ltb}
@@ -31,13 +31,13 @@ returns-4 c =
 returns-5 : tie.Need-returns-5
 unfolding loginStep
 returns-5 c =
-    let e = ap Read.answerOf (sym (c .before .before .before .before .before .before .before .before .before .read-pdu2 .given .1)) ∙ c .before .before .before .before .before .before .before .before .before .before .before .read .ensures in
-    rw (c .before .before .before .before .before .before .before .data-of .ensures) at (c .before .before .before .before .kind-step .ensures)
-    ∙ sym (past _ _ _ _ (le-ltb _ _ (c .before .before .before .before .before .before .before .before .before .before .before .before .before .before .if1 .left)) (past _ _ _ _ (le-ltb _ _ (c .before .before .before .before .before .before .before .before .before .before .before .before .before .if2 .left)) (past _ _ _ _ (c .before .before .before .before .before .before .before .before .before .before .before .before .if3 .left) (rw (← e)))))
+    let e = ap Read.answerOf (sym (c .before .before .before .before .before .before .before .before .before .before .read-pdu2 .given .1)) ∙ c .before .before .before .before .before .before .before .before .before .before .before .before .read .ensures in
+    rw (c .before .before .before .before .before .before .before .data-of .ensures, c .before .before .before .before .before .before .before .before .login-in .ensures, found-is) at (c .before .before .before .before .kind-step .ensures)
+    ∙ sym (past _ _ _ _ (le-ltb _ _ (c .before .before .before .before .before .before .before .before .before .before .before .before .before .before .before .if1 .left)) (past _ _ _ _ (le-ltb _ _ (c .before .before .before .before .before .before .before .before .before .before .before .before .before .before .if2 .left)) (past _ _ _ _ (c .before .before .before .before .before .before .before .before .before .before .before .before .before .if3 .left) (rw (← e)))))
 
 pub login-request-spec : {M : Type 1} → statement M
 login-request-spec =
     tie.close (tie.spec
     (λ c κs. search needs) returns (λ c κs. search needs) returns-2 (λ c κs. search needs) returns-3
     (λ c κs. search needs) (λ c. search needs) (λ c κs. search needs) (λ c. search needs) (λ c κs. search needs)
-    (λ c κs. search needs) returns-4 (λ c. search needs) (λ c. search needs) returns-5)
+    (λ c κs. search needs) (λ c κs. search needs) returns-4 (λ c. search needs) (λ c. search needs) returns-5)
