@@ -3,7 +3,7 @@ use Prim.Native.Nat.{ℕ, _%_, _^_}
 use mathlib.Core.Path.{_≡_}
 use mathlib.Core.Bool.{Bool, true, false}
 use mathlib.Core.List.{List, [], _∷_}
-use Rattle.header.specs.Refusal.{number, status}
+use Rattle.refusal.specs.Refusal.{number, status}
 use Rattle.capi.specs.Words.{word, isSet, flagWord}
 use Rattle.login.specs.Login.{Outcome, answerOf}
 use Rattle.login.specs.declared.state.State.{State}

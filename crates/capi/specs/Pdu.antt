@@ -3,10 +3,10 @@ use Prim.Native.Nat.{ℕ}
 use mathlib.Core.List.{List}
 use lib.ListN.{length}
 use lib.Dec.{ltb}
-use Rattle.header.specs.Field.{pick}
-use Rattle.header.specs.Request.{Answer, got, refused}
-use Rattle.header.specs.Response.{Outcome, writing, maxData}
-use Rattle.header.specs.declared.response.Numbers.{Numbers}
+use Rattle.field.specs.Field.{pick}
+use Rattle.request_header.specs.Request.{Answer, got, refused}
+use Rattle.response_header.specs.Response.{Outcome, writing, maxData}
+use Rattle.response_header.specs.declared.Numbers.{Numbers}
 use Rattle.capi.specs.declared.words.Made.{Made}
 use Rattle.capi.specs.declared.words.Made.the-variants.{Known, Unknown}
 use Rattle.capi.specs.Words.{pduWords}

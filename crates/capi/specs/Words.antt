@@ -4,17 +4,17 @@ use mathlib.Core.Bool.{Bool, true, false, not}
 use mathlib.Core.List.{List, [], _∷_}
 use lib.ListN.{getD}
 use lib.Dec.{eqb}
-use Rattle.header.specs.Field.{pick}
-use Rattle.header.specs.declared.request.Request.{Request}
-use Rattle.header.specs.declared.request.Request.the-variants as Q
-use Rattle.header.specs.declared.request.Pdu.{Pdu}
-use Rattle.header.specs.declared.response.NopIn.{NopIn}
-use Rattle.header.specs.declared.response.ScsiResponse.{ScsiResponse}
-use Rattle.header.specs.declared.response.TaskManagementResponse.{TaskManagementResponse}
-use Rattle.header.specs.declared.response.LoginResponse.{LoginResponse}
-use Rattle.header.specs.declared.response.LogoutResponse.{LogoutResponse}
-use Rattle.header.specs.declared.response.Reject.{Reject}
-use Rattle.header.specs.declared.response.Response.the-variants as R
+use Rattle.field.specs.Field.{pick}
+use Rattle.request_header.specs.declared.Request.{Request}
+use Rattle.request_header.specs.declared.Request.the-variants as Q
+use Rattle.request_header.specs.declared.Pdu.{Pdu}
+use Rattle.response_header.specs.declared.NopIn.{NopIn}
+use Rattle.response_header.specs.declared.ScsiResponse.{ScsiResponse}
+use Rattle.response_header.specs.declared.TaskManagementResponse.{TaskManagementResponse}
+use Rattle.response_header.specs.declared.LoginResponse.{LoginResponse}
+use Rattle.response_header.specs.declared.LogoutResponse.{LogoutResponse}
+use Rattle.response_header.specs.declared.Reject.{Reject}
+use Rattle.response_header.specs.declared.Response.the-variants as R
 use Rattle.capi.specs.declared.words.Made.{Made}
 use Rattle.capi.specs.declared.words.Made.the-variants.{Known, Unknown}
 

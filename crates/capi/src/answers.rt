@@ -1,5 +1,5 @@
 // A session's answers as four words.
-use header::refusal::Refusal;
+use refusal::Refusal;
 use session::WindowNumbers;
 use session::command::OfferAnswer;
 use session::command::TakeAnswer;
@@ -15,7 +15,7 @@ use window::Taken;
 ghost use mathlib.Core.Path.{_≡_};
 ghost use Rattle.session.specs.Book.{Answer};
 ghost use Rattle.session.specs.Agree.{offerAnswer, takeAnswer, openAnswer, logoutAnswer, sendAnswer, acknowledgeAnswer, snackAnswer, resendAnswer};
-ghost use Rattle.header.specs.Refusal.{number};
+ghost use Rattle.refusal.specs.Refusal.{number};
 ghost use Rattle.window.specs.Agree.{originOf};
 ghost use Rattle.capi.specs.Answer.{originWord, answerWords, windowWords};
 
@@ -40,7 +40,7 @@ const COMMAND: u32 = 40;
 pub(crate) fn refused(f: Refusal) -> [u32; 4]
     ensures { λ w. ⌜ w ≡ answerWords (Answer.refused (number f)) ⌝ }
 {
-    [header::refusal::number_of(f) as u32, 0, 0, 0]
+    [refusal::number_of(f) as u32, 0, 0, 0]
 }
 
 fn placed(a: Offered) -> [u32; 4]

@@ -3,12 +3,12 @@
 use crate::words::flag;
 use crate::words::low8;
 use crate::words::low16;
-use header::refusal::number_of;
-use header::refusal::status_of;
 use keys::parameters::Parameters;
 use keys::parameters::Settled;
 use login::state::Answer;
 use login::state::State;
+use refusal::number_of;
+use refusal::status_of;
 ghost use mathlib.Core.Path.{_≡_};
 ghost use Rattle.login.specs.Login.{Outcome, answerOf, loginStep, freshLogin};
 ghost use Rattle.capi.specs.Login.{loginOf, loginWords, LoginSaid};

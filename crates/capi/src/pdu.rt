@@ -2,15 +2,15 @@
 use crate::words::Made;
 use crate::words::pdu_words;
 use crate::words::response;
-use header::request::LIMITS;
-use header::request::ReadAnswer;
-use header::response::MAX_DATA;
-use header::response::Numbers;
-use header::response::Response;
-use header::response::WriteAnswer;
+use request_header::LIMITS;
+use request_header::ReadAnswer;
+use response_header::MAX_DATA;
+use response_header::Numbers;
+use response_header::Response;
+use response_header::WriteAnswer;
 ghost use mathlib.Core.Path.{_≡_};
-ghost use Rattle.header.specs.Request.{limits, readPdu};
-ghost use Rattle.header.specs.Response.{Outcome};
+ghost use Rattle.request_header.specs.Request.{limits, readPdu};
+ghost use Rattle.response_header.specs.Response.{Outcome};
 ghost use Rattle.capi.specs.Words.{responseOf};
 ghost use Rattle.capi.specs.Pdu.{ReadWords, readWords, writeWords, numbersOf};
 
@@ -19,8 +19,8 @@ ghost use Rattle.capi.specs.Pdu.{ReadWords, readWords, writeWords, numbe
 pub extern "C" fn drawbevel_core_read(input: &[u8], pdu: &mut [u64; 17]) -> u32
     ensures { λ r. ⌜ _≡_ {A = ReadWords} (record { answer = r; words = now (pdu .exit) }) (readWords (readPdu limits (now (input .entry))) (now (pdu .entry))) ⌝ }
 {
-    match header::read::read(input, LIMITS) {
-        ReadAnswer::Refused(f) => header::refusal::number_of(f) as u32,
+    match request_header::read::read(input, LIMITS) {
+        ReadAnswer::Refused(f) => refusal::number_of(f) as u32,
         ReadAnswer::Got(p) => {
             let w = pdu_words(p);
             *pdu = w;
@@ -30,10 +30,10 @@ pub extern "C" fn drawbevel_core_read(input: &[u8], pdu: &mut [u64; 17]) -> u32
 }
 
 fn write_known(out: &mut [u8], r: Response, n: Numbers) -> u32
-    ensures { λ k. ⌜ _≡_ {A = Outcome} (record { answer = k; bytes = now (out .exit) }) (Rattle.header.specs.Response.writing 8192 (now (out .entry)) r n) ⌝ }
+    ensures { λ k. ⌜ _≡_ {A = Outcome} (record { answer = k; bytes = now (out .exit) }) (Rattle.response_header.specs.Response.writing 8192 (now (out .entry)) r n) ⌝ }
 {
-    match header::write::write(out, r, n, MAX_DATA) {
-        WriteAnswer::Refused(f) => header::refusal::number_of(f) as u32,
+    match response_header::write::write(out, r, n, MAX_DATA) {
+        WriteAnswer::Refused(f) => refusal::number_of(f) as u32,
         WriteAnswer::Written => 0,
     }
 }

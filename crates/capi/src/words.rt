@@ -1,13 +1,13 @@
 // PDUs and responses as arrays of 64-bit words: the structs of drawbevel.h.
-use header::request::Pdu;
-use header::request::Request;
-use header::response::LoginResponse;
-use header::response::LogoutResponse;
-use header::response::NopIn;
-use header::response::Reject;
-use header::response::Response;
-use header::response::ScsiResponse;
-use header::response::TaskManagementResponse;
+use request_header::Pdu;
+use request_header::Request;
+use response_header::LoginResponse;
+use response_header::LogoutResponse;
+use response_header::NopIn;
+use response_header::Reject;
+use response_header::Response;
+use response_header::ScsiResponse;
+use response_header::TaskManagementResponse;
 ghost use mathlib.Core.Path.{_≡_};
 ghost use Prim.Native.Nat.{_%_, _^_};
 ghost use Rattle.capi.specs.Words.{flagWord, requestWords, pduWords, isSet, nopInOf, scsiResponseOf, taskManagementResponseOf, loginResponseOf, logoutResponseOf, rejectOf, responseOf};

@@ -4,9 +4,9 @@ mod responses;
 mod show;
 mod text;
 
-use header::request::LIMITS;
-use header::request::ReadAnswer;
 use libc::STDIN_FILENO;
+use request_header::LIMITS;
+use request_header::ReadAnswer;
 ghost use Prim.Native.Nat.{_≤_};
 ghost use lib.ListN.{length};
 
@@ -61,10 +61,10 @@ fn read_first(buffer: &[u8], n: usize) {
         return;
     }
     let pdu = &buffer[0..n];
-    let a = header::read::read(pdu, LIMITS);
+    let a = request_header::read::read(pdu, LIMITS);
     show::answer(a);
     match a {
-        ReadAnswer::Got(p) => ends(header::read::data_of(pdu, p)),
+        ReadAnswer::Got(p) => ends(request_header::read::data_of(pdu, p)),
         ReadAnswer::Refused(_) => {}
     }
 }

@@ -2,16 +2,16 @@
 use crate::show::refused;
 use crate::text::put;
 use crate::text::put_byte;
-use header::response::LoginResponse;
-use header::response::LogoutResponse;
-use header::response::MAX_DATA;
-use header::response::NopIn;
-use header::response::Numbers;
-use header::response::Reject;
-use header::response::Response;
-use header::response::ScsiResponse;
-use header::response::TaskManagementResponse;
-use header::response::WriteAnswer;
+use response_header::LoginResponse;
+use response_header::LogoutResponse;
+use response_header::MAX_DATA;
+use response_header::NopIn;
+use response_header::Numbers;
+use response_header::Reject;
+use response_header::Response;
+use response_header::ScsiResponse;
+use response_header::TaskManagementResponse;
+use response_header::WriteAnswer;
 
 fn put_bytes(bytes: &[u8]) {
     let mut i = 0;
@@ -32,7 +32,7 @@ fn write_first(buffer: &mut [u8], size: usize, r: Response) {
         exp_cmd_sn: 0x1112_1314,
         max_cmd_sn: 0x2122_2324,
     };
-    match header::write::write(&mut buffer[0..size], r, numbers, MAX_DATA) {
+    match response_header::write::write(&mut buffer[0..size], r, numbers, MAX_DATA) {
         WriteAnswer::Written => put(b"written\n"),
         WriteAnswer::Refused(f) => refused(f),
     }

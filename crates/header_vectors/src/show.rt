@@ -2,16 +2,16 @@
 use crate::text::put;
 use crate::text::put_decimal;
 use crate::text::put_hex;
-use header::refusal::Refusal;
-use header::request::Login;
-use header::request::Logout;
-use header::request::NopOut;
-use header::request::Pdu;
-use header::request::ReadAnswer;
-use header::request::Request;
-use header::request::ScsiCommand;
-use header::request::Snack;
-use header::request::TaskManagement;
+use refusal::Refusal;
+use request_header::Login;
+use request_header::Logout;
+use request_header::NopOut;
+use request_header::Pdu;
+use request_header::ReadAnswer;
+use request_header::Request;
+use request_header::ScsiCommand;
+use request_header::Snack;
+use request_header::TaskManagement;
 
 pub fn word(name: &[u8], v: u32) {
     put(name);
@@ -131,7 +131,7 @@ fn pdu(p: Pdu) {
 
 pub fn refused(f: Refusal) {
     put(b"refused ");
-    put_decimal(header::refusal::number_of(f) as u64);
+    put_decimal(refusal::number_of(f) as u64);
     put(b"\n");
 }
 

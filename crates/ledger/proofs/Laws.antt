@@ -10,12 +10,13 @@ use native.Mathlib.Decide.{ℕ-discrete, decLt}
 use lib.ListN.{length, getD, set, drop, length-append, length-drop, length-set}
 use lib.Dec.{eqb}
 use borrow.Author.Tests.{lt-ltb, le-ltb, le-leb, lt-leb, eq-eqb, ne-eqb}
-use Rattle.header.specs.Field.{bytesOf}
-use Rattle.header.specs.Refusal.{number}
-use Rattle.header.specs.Response.{maxData, refusalIn, headerBytes}
-use Rattle.header.specs.declared.refusal.Refusal.{Refusal}
-use Rattle.header.specs.declared.response.Response.{Response}
-use Rattle.header.proofs.Laws.{length-bytes, number-positive}
+use Rattle.field.specs.Field.{bytesOf}
+use Rattle.refusal.specs.Refusal.{number}
+use Rattle.response_header.specs.Response.{maxData, refusalIn, headerBytes}
+use Rattle.refusal.specs.declared.Refusal.{Refusal}
+use Rattle.response_header.specs.declared.Response.{Response}
+use Rattle.field.proofs.Laws.{length-bytes}
+use Rattle.refusal.proofs.Laws.{number-positive}
 use lib.Seq.{paste, sets, getD-set-same, getD-set-other, length-paste, set-append-left, length-sets, take-all, take-at}
 use Rattle.store.specs.Slot.{slotOf}
 use Rattle.store.proofs.Slots.{slot-same, slot-other}

@@ -6,8 +6,8 @@ use mathlib.Core.Bool.{true, false}
 use mathlib.Core.List.{List, _++_}
 use lib.ListN.{length, getD, set, take, drop}
 use lib.Seq.{paste}
-use Rattle.header.specs.Refusal.{number}
-use Rattle.header.specs.declared.response.Response.{Response}
+use Rattle.refusal.specs.Refusal.{number}
+use Rattle.response_header.specs.declared.Response.{Response}
 use Rattle.store.specs.Slot.{headerSize, slotOf}
 use Rattle.ledger.specs.Book.{statuses, connections, Status, LedgerBook, freshLedger, isStatus, oldest, place, Sending, refused, notStored, stored, sending, headerFor, sendBytes, sent, isGood, released, notHeld, run, Found, missing, found, lookup, statusOf, renewed}
 use Rattle.ledger.specs.Book as Book

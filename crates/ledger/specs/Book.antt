@@ -5,12 +5,12 @@ use mathlib.Core.List.{List, [], _∷_, _++_}
 use lib.Dec.{ltb, leb, eqb}
 use lib.ListN.{length, drop}
 use lib.Seq.{sets}
-use Rattle.header.specs.Field.{pick, bytesOf}
-use Rattle.header.specs.Field as Field
-use Rattle.header.specs.Response.{maxData, refusalIn, headerBytes}
+use Rattle.field.specs.Field.{pick, bytesOf}
+use Rattle.field.specs.Field as Field
+use Rattle.response_header.specs.Response.{maxData, refusalIn, headerBytes}
 use Rattle.store.specs.Slot.{headerSize}
-use Rattle.header.specs.declared.response.Response.{Response}
-use Rattle.header.specs.declared.response.Response.the-variants as R
+use Rattle.response_header.specs.declared.Response.{Response}
+use Rattle.response_header.specs.declared.Response.the-variants as R
 
 -- "FULL: 32 statuses unacknowledged".
 abbrev pub statuses : ℕ

@@ -1,12 +1,12 @@
 // A connection's status ledger: the next StatSN and the statuses that are sent and not acknowledged. What a call changes
 // is a small struct by value and two arrays that the caller lends, which the four connections share: connection c has
 // the slots from 32 * c on, and a status lies in the slot of its number modulo 32.
-use header::field::NONE;
-use header::refusal::Refusal;
-use header::response::Judgement;
-use header::response::MAX_DATA;
-use header::response::Numbers;
-use header::response::Response;
+use field::NONE;
+use refusal::Refusal;
+use response_header::Judgement;
+use response_header::MAX_DATA;
+use response_header::Numbers;
+use response_header::Response;
 use store::HEADER_BYTES;
 ghost use mathlib.Core.Path.{_≡_};
 ghost use mathlib.Core.Bool.{true, false};
@@ -14,7 +14,7 @@ ghost use mathlib.Core.List.{List};
 ghost use Prim.Native.Nat.{ℕ, _+_, _<_, _≤_};
 ghost use lib.ListN.{length};
 ghost use lib.Seq.{sets};
-ghost use Rattle.header.specs.Field.{bytesOf};
+ghost use Rattle.field.specs.Field.{bytesOf};
 ghost use Rattle.store.specs.Slot.{headerSize};
 ghost use Rattle.ledger.specs.Book.{LedgerBook, statuses, connections, isStatus, place, runOf};
 ghost use Rattle.ledger.specs.Agree.{Agrees, Opened, Stored, Sends, AcknowledgesAt, runAnswer, Resends};
@@ -102,7 +102,7 @@ pub fn send(
         (now (out .entry)) (now (headers .entry)) (now (tickets .entry))
         x (now (out .exit)) (now (headers .exit)) (now (tickets .exit)) ⌝ }
 {
-    match header::write::judge(r, MAX_DATA) {
+    match response_header::write::judge(r, MAX_DATA) {
         Judgement::Refused(f) => Sent::Refused(f),
         Judgement::Fits => {
             let n = Numbers {
@@ -110,7 +110,7 @@ pub fn send(
                 exp_cmd_sn: exp_cmd_sn,
                 max_cmd_sn: max_cmd_sn,
             };
-            let h = header::write::header(r, n);
+            let h = response_header::write::header(r, n);
             if !is_status(r) {
                 store::put(out, 0, &h);
                 return Sent::NotStored(l.next);

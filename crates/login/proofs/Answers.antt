@@ -6,7 +6,7 @@ use Prim.Native.Nat.{ℕ, _≤_}
 use native.Mathlib.Omega.{arith}
 use lib.ListN.{length, drop, take}
 use lib.Seq.{take-at, length-take-le}
-use Rattle.header.specs.declared.request.Login.{Login}
+use Rattle.request_header.specs.declared.Login.{Login}
 use Rattle.keys.specs.declared.parameters.Settled.{Settled}
 use Rattle.login.specs.Login.{startText, answerOf, isRefused, gatherAfter, withGather, settledLogin, Outcome, Texted, accept, kindStep}
 use Rattle.login.specs.Code.{acceptStep, loginIn, foundStep}
@@ -16,16 +16,16 @@ use Rattle.login.specs.declared.block.Verdict.{Verdict}
 use Rattle.text.specs.Block.{pairs}
 use Rattle.text.specs.Text.{pick}
 use Rattle.text.proofs.Laws.{past, here}
-use Rattle.header.specs.Refusal.{number, status}
-use Rattle.header.specs.Request as Read
-use Rattle.header.specs.Request.{readPdu, judged, known, opcodeOf, dataLengthOf, statedLength, sharedOk, ruleOk, pduOf}
-use Rattle.header.specs.declared.refusal.Refusal.{Refusal}
-use Rattle.header.specs.declared.refusal.Refusal.the-variants as F
-use Rattle.header.specs.declared.request.Pdu.{Pdu}
-use Rattle.header.specs.declared.request.Request.{Request}
-use Rattle.header.specs.declared.request.Request.the-variants as R
-use Rattle.header.specs.declared.request.Limits.{Limits}
-use Rattle.header.specs.declared.request.ReadAnswer.the-variants as G
+use Rattle.refusal.specs.Refusal.{number, status}
+use Rattle.request_header.specs.Request as Read
+use Rattle.request_header.specs.Request.{readPdu, judged, known, opcodeOf, dataLengthOf, statedLength, sharedOk, ruleOk, pduOf}
+use Rattle.refusal.specs.declared.Refusal.{Refusal}
+use Rattle.refusal.specs.declared.Refusal.the-variants as F
+use Rattle.request_header.specs.declared.Pdu.{Pdu}
+use Rattle.request_header.specs.declared.Request.{Request}
+use Rattle.request_header.specs.declared.Request.the-variants as R
+use Rattle.request_header.specs.declared.Limits.{Limits}
+use Rattle.request_header.specs.declared.ReadAnswer.the-variants as G
 use Rattle.login.specs.declared.state.Answer.{Answer}
 use Rattle.login.specs.declared.state.Answer.the-variants as W
 use lib.Dec.{eqb, ltb}

@@ -10,7 +10,7 @@ use lib.Seq.{take-at, drop-at, length-take-le, take-add}
 use lib.Dec.{leb}
 use Rattle.text.specs.Text.{pick}
 use Rattle.text.proofs.Laws.{below, at}
-use Rattle.header.specs.declared.request.Login.{Login}
+use Rattle.request_header.specs.declared.Login.{Login}
 use Rattle.login.specs.Login.{Check, check, checks, firstBroken, statusOf, blockOf, joined}
 use Rattle.login.specs.Code.{Joined}
 use Rattle.login.specs.declared.state.State.{State}

@@ -8,12 +8,12 @@ use native.Mathlib.Omega.{arith}
 use borrow.Author.Tests.{ne-eqb, eqb-true, eqb-false, not-true, not-false}
 use lib.ListN.{length, getD, take}
 use lib.Dec.{eqb, ltb}
-use Rattle.header.specs.Request.{readPdu, limits, dataOf}
-use Rattle.header.specs.Request as Read
-use Rattle.header.specs.declared.request.Login.{Login}
-use Rattle.header.specs.declared.request.Pdu.{Pdu}
-use Rattle.header.specs.declared.request.Request.{Request}
-use Rattle.header.specs.declared.request.Request.the-variants as R
+use Rattle.request_header.specs.Request.{readPdu, limits, dataOf}
+use Rattle.request_header.specs.Request as Read
+use Rattle.request_header.specs.declared.Login.{Login}
+use Rattle.request_header.specs.declared.Pdu.{Pdu}
+use Rattle.request_header.specs.declared.Request.{Request}
+use Rattle.request_header.specs.declared.Request.the-variants as R
 use Rattle.text.specs.Text.{pick}
 use Rattle.text.specs.Block.{Pair, formed, pairs}
 use Rattle.text.proofs.Laws.{&&-left, &&-right, &&-true, &&-false, false-true, past, here}

@@ -5,11 +5,11 @@ use mathlib.Core.Path.{_≡_}
 use mathlib.Core.List.{List}
 use lib.ListN.{length, take, drop}
 use Rattle.text.specs.Text.{pick}
-use Rattle.header.specs.declared.refusal.Refusal.{Refusal}
-use Rattle.header.specs.declared.refusal.Refusal.the-variants as F
-use Rattle.header.specs.declared.request.Login.{Login}
-use Rattle.header.specs.declared.request.Request.{Request}
-use Rattle.header.specs.declared.request.Request.the-variants as R
+use Rattle.refusal.specs.declared.Refusal.{Refusal}
+use Rattle.refusal.specs.declared.Refusal.the-variants as F
+use Rattle.request_header.specs.declared.Login.{Login}
+use Rattle.request_header.specs.declared.Request.{Request}
+use Rattle.request_header.specs.declared.Request.the-variants as R
 use Rattle.login.specs.declared.request.Found.{Found}
 use Rattle.login.specs.declared.request.Found.the-variants as N
 use Rattle.keys.specs.declared.parameters.Settled.{Settled}

@@ -5,12 +5,12 @@ use mathlib.Core.Path.{_≡_}
 use mathlib.Core.List.{List, [], _∷_, _++_, List·Memᴰ}
 use lib.ListN.{length, getD, take, drop}
 use lib.Dec.{eqb}
-use Rattle.header.specs.Request.{readPdu, limits, dataOf}
-use Rattle.header.specs.Request as Read
-use Rattle.header.specs.declared.request.Login.{Login}
-use Rattle.header.specs.declared.request.Pdu.{Pdu}
-use Rattle.header.specs.declared.request.Request.{Request}
-use Rattle.header.specs.declared.request.Request.the-variants as R
+use Rattle.request_header.specs.Request.{readPdu, limits, dataOf}
+use Rattle.request_header.specs.Request as Read
+use Rattle.request_header.specs.declared.Login.{Login}
+use Rattle.request_header.specs.declared.Pdu.{Pdu}
+use Rattle.request_header.specs.declared.Request.{Request}
+use Rattle.request_header.specs.declared.Request.the-variants as R
 use Rattle.text.specs.Text.{pick}
 use Rattle.text.specs.Block.{Pair, formed, pairs}
 use Rattle.keys.specs.Table.{keyOf, rowAt, standards}

@@ -4,13 +4,13 @@ use mathlib.Core.Bool.{Bool, true, false, not, _&&_, _||_}
 use mathlib.Core.List.{List, [], _∷_, _++_}
 use lib.ListN.{length, getD, take, drop}
 use lib.Dec.{eqb, ltb}
-use Rattle.header.specs.Refusal.{number, status}
-use Rattle.header.specs.Request.{readPdu, limits, dataOf, got}
-use Rattle.header.specs.Request as Read
-use Rattle.header.specs.declared.request.Login.{Login}
-use Rattle.header.specs.declared.request.Pdu.{Pdu}
-use Rattle.header.specs.declared.request.Request.{Request}
-use Rattle.header.specs.declared.request.Request.the-variants as R
+use Rattle.refusal.specs.Refusal.{number, status}
+use Rattle.request_header.specs.Request.{readPdu, limits, dataOf, got}
+use Rattle.request_header.specs.Request as Read
+use Rattle.request_header.specs.declared.Login.{Login}
+use Rattle.request_header.specs.declared.Pdu.{Pdu}
+use Rattle.request_header.specs.declared.Request.{Request}
+use Rattle.request_header.specs.declared.Request.the-variants as R
 use Rattle.text.specs.Text.{pick, bytes}
 use Rattle.text.specs.Block.{formed, pairs}
 use Rattle.keys.specs.Settle.{noneSeen}

@@ -1,6 +1,6 @@
 // The checks of a Login request, in their order.
 use crate::state::State;
-use header::request::Login;
+use request_header::Login;
 ghost use mathlib.Core.Path.{_≡_};
 ghost use Prim.Native.Nat.{_<_, _^_};
 ghost use Rattle.login.specs.Login.{permitted, differs, statusOf};

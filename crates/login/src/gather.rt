@@ -5,7 +5,7 @@ use crate::state::Answer;
 use crate::state::State;
 use crate::state::Step;
 use crate::state::is_refused;
-use header::request::Login;
+use request_header::Login;
 use text::slice::append;
 ghost use mathlib.Core.Path.{_≡_};
 ghost use Prim.Native.Nat.{_+_, _≤_};

@@ -1,6 +1,6 @@
 // A login: what it keeps from request to request, and what a request is answered.
-use header::refusal::Refusal;
 use keys::parameters::Settled;
+use refusal::Refusal;
 ghost use mathlib.Core.Path.{_≡_};
 ghost use Rattle.login.specs.Login.{freshLogin, isRefused};
 

@@ -3,9 +3,6 @@
 // A line is eleven numbers and a text: bytes 0 and 1 of the PDU, Version-min, ISID, TSIH, CID, the live session's handle, the new handle,
 // the lengths of the lent gather area and text output, and how many bytes are cut off the PDU. In the text | stands for a zero byte.
 // "login" begins a login, "params" writes the parameters in force, and other lines are copied.
-use header::refusal::Refusal;
-use header::refusal::number_of;
-use header::refusal::status_of;
 use keys::parameters::Parameters;
 use libc::STDIN_FILENO;
 use libc::STDOUT_FILENO;
@@ -13,6 +10,9 @@ use login::request::login_request;
 use login::state::Accepted;
 use login::state::Answer;
 use login::state::State;
+use refusal::Refusal;
+use refusal::number_of;
+use refusal::status_of;
 use text::number::Number;
 use text::slice::append;
 use text::slice::find;

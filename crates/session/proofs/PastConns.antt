@@ -10,7 +10,7 @@ use borrow.Author.Tests.{lt-ltb, le-ltb, eq-eqb, ne-eqb, eqb-true}
 use lib.Dec.{ltb, eqb}
 use lib.ListN.{length, getD, set, drop, length-append, length-drop, length-set}
 use lib.Seq.{getD-set-same, getD-set-other}
-use Rattle.header.specs.Field.{pick}
+use Rattle.field.specs.Field.{pick}
 use Rattle.ledger.specs.Book as L
 use Rattle.ledger.proofs.Laws.{lookup-past, lookup-end, lookup-front, lookup-drop, oldest-sent, oldest-released, oldest-lt}
 use Rattle.session.proofs.Steps.{all-closed}

@@ -11,7 +11,7 @@ use borrow.Author.Tests.{lt-ltb, le-ltb, le-leb, lt-leb, eq-eqb, ne-eqb, eqb-tru
 use lib.Dec.{ltb, leb, eqb}
 use lib.ListN.{length, getD, set, drop, replicate, length-append, length-drop, length-set, length-replicate, List·getD-eq-default}
 use lib.Seq.{getD-set-same, getD-set-other}
-use Rattle.header.specs.Field.{pick}
+use Rattle.field.specs.Field.{pick}
 use Rattle.window.specs.Book as W
 use Rattle.window.specs.Book.{Origin, connection, isFrom, Place, empty, holds, Command, sumOf, emptiedAt, one-if}
 use Rattle.window.specs.Agree.{heldBit}

@@ -12,13 +12,13 @@ use lib.Dec.{ltb, leb, eqb}
 use lib.ListN as ListN
 use lib.ListN.{length, getD, set, drop, length-append, length-drop, List·getD-eq-default, List·getD-append}
 use lib.Seq.{sets, sets-eq, length-sets, length-take-le, take-at, getD-set-other, getD-append-add, getD-drop}
-use Rattle.header.specs.Field.{pick, bytesOf}
-use Rattle.header.specs.Request.{limits, readPdu}
-use Rattle.header.specs.Request as Read
-use Rattle.header.specs.Response.{refusalIn, maxData}
-use Rattle.header.specs.declared.request.Pdu.{Pdu}
-use Rattle.header.specs.declared.response.Response.{Response}
-use Rattle.header.proofs.Laws.{length-bytes}
+use Rattle.field.specs.Field.{pick, bytesOf}
+use Rattle.request_header.specs.Request.{limits, readPdu}
+use Rattle.request_header.specs.Request as Read
+use Rattle.response_header.specs.Response.{refusalIn, maxData}
+use Rattle.request_header.specs.declared.Pdu.{Pdu}
+use Rattle.response_header.specs.declared.Response.{Response}
+use Rattle.field.proofs.Laws.{length-bytes}
 use Rattle.window.specs.Book as W
 use Rattle.window.specs.Book.{Place, empty, holds, Command, connection}
 use Rattle.ledger.specs.Book as L
@@ -26,7 +26,7 @@ use Rattle.session.specs.Book.{Offered, denied, atOnce, numbered, offere
 use Rattle.session.specs.History.{event, booked, bookRun}
 use Rattle.session.specs.Notions.{Effect, keeps, handsOut, logsOut, opens, sends, acknowledges, nothing, effectOf, same, handOuts, next, distance, amongNext, amongLast, Latest, by, latestOffer, originOf, held, expCmdSN, maxCmdSN, voidedSince, emptied, isOpen, lastSent, acknowledgedSince}
 use Rattle.session.specs.Demand.{Takes, Offers, Shows, Resends, NotRefused, Sentences, Each, Demand3}
-use Rattle.header.proofs.Writing.{length-header}
+use Rattle.response_header.proofs.Writing.{length-header}
 use Rattle.session.proofs.Steps.{apart, offered-number}
 use Rattle.session.proofs.PastWindow.{AllNumbered, WindowInv, next-is, distance-is, held-is, isHeld, q-opens, q-sends, q-acknowledges, q-nothing, window-quiet, window-keeps, window-hands, window-logs, window-fresh, count-is, exp-is, max-is, last-is, was-offered, placeIn, placeOf, headerIn, ticketIn, place-first}
 use Rattle.session.proofs.PastConns.{LiveOk, ConnIs, ConnInv, statusIn, conn-still, s-keeps, s-handsOut, s-nothing, conn-open, conn-send, conn-ack, conn-logs, conn-fresh}

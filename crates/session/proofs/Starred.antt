@@ -1,8 +1,8 @@
 -- The starred cases of paper 01 are what the definitions compute.
 use mathlib.Core.Path.{_≡_, refl}
-use Rattle.header.specs.Field.{beAt, bytesOf}
-use Rattle.header.specs.Request.{readPdu, known, statedLength, sharedOk, ruleOk, judged, pduOf, requestOf}
-use Rattle.header.specs.Response.{refusalIn, headerBytes, ownFields}
+use Rattle.field.specs.Field.{beAt, bytesOf}
+use Rattle.request_header.specs.Request.{readPdu, known, statedLength, sharedOk, ruleOk, judged, pduOf, requestOf}
+use Rattle.response_header.specs.Response.{refusalIn, headerBytes, ownFields}
 use Rattle.window.specs.Book as W
 use Rattle.ledger.specs.Book as L
 use Rattle.session.specs.Book.{freshBook, connOf, withConn, withWindow, byWindow, onOpen, onConnection, lending, offerBy, sendAs, sendBy, snackBy, runStep, bookStep}

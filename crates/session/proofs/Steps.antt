@@ -11,11 +11,11 @@ use lib.Dec.{ltb}
 use lib.ListN as ListN
 use lib.ListN.{length, getD, set, drop, replicate, length-set}
 use lib.Seq.{getD-set-same, getD-set-other}
-use Rattle.header.specs.Field.{pick}
-use Rattle.header.specs.Request.{limits, readPdu}
-use Rattle.header.specs.Request as Read
-use Rattle.header.specs.declared.response.Response.{Response}
-use Rattle.header.proofs.Reading.{got-long}
+use Rattle.field.specs.Field.{pick}
+use Rattle.request_header.specs.Request.{limits, readPdu}
+use Rattle.request_header.specs.Request as Read
+use Rattle.response_header.specs.declared.Response.{Response}
+use Rattle.request_header.proofs.Reading.{got-long}
 use Rattle.window.specs.Book as W
 use Rattle.window.specs.Agree as WA
 use Rattle.window.specs.declared.Window.{Window}

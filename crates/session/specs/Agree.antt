@@ -7,7 +7,7 @@ use mathlib.Core.List.{List, []}
 use lib.ListN.{length, getD, set, replicate}
 use lib.ListN as ListN
 use Rattle.ledger.specs.Book.{isStatus}
-use Rattle.header.specs.Refusal.{number}
+use Rattle.refusal.specs.Refusal.{number}
 use Rattle.store.specs.Slot.{headerSize}
 use Rattle.window.specs.Agree as WA
 use Rattle.window.specs.Book as W

@@ -6,12 +6,12 @@ use mathlib.Core.List.{List, [], _∷_, _++_}
 use lib.Dec.{ltb, leb, eqb}
 use lib.ListN as ListN
 use lib.ListN.{length, getD, set, drop, replicate}
-use Rattle.header.specs.Field.{pick}
-use Rattle.header.specs.Request.{limits, readPdu}
-use Rattle.header.specs.Request as Read
-use Rattle.header.specs.declared.request.Request.{Request}
-use Rattle.header.specs.declared.request.Request.the-variants as Q
-use Rattle.header.specs.declared.response.Response.{Response}
+use Rattle.field.specs.Field.{pick}
+use Rattle.request_header.specs.Request.{limits, readPdu}
+use Rattle.request_header.specs.Request as Read
+use Rattle.request_header.specs.declared.Request.{Request}
+use Rattle.request_header.specs.declared.Request.the-variants as Q
+use Rattle.response_header.specs.declared.Response.{Response}
 use Rattle.store.specs.Slot.{headerSize}
 use Rattle.window.specs.Book as W
 use Rattle.ledger.specs.Book as L

@@ -8,9 +8,9 @@ use mathlib.Core.Bool.{true, false, not}
 use mathlib.Core.List.{List, [], _∷_, _++_}
 use mathlib.Core.Logic.{_↔_, _⊎_}
 use lib.ListN.{length, getD, drop}
-use Rattle.header.specs.Field.{bytesOf}
-use Rattle.header.specs.Request.{limits, readPdu, got}
-use Rattle.header.specs.declared.request.Pdu.{Pdu}
+use Rattle.field.specs.Field.{bytesOf}
+use Rattle.request_header.specs.Request.{limits, readPdu, got}
+use Rattle.request_header.specs.declared.Pdu.{Pdu}
 use Rattle.store.specs.Slot.{headerSize}
 use Rattle.window.specs.Book as W
 use Rattle.ledger.specs.Book.{Status, missing, found}

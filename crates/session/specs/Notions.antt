@@ -7,7 +7,7 @@ use mathlib.Core.Bool.{Bool, true, false, not, _&&_, _||_}
 use mathlib.Core.List.{List, [], _∷_}
 use lib.Dec.{ltb, eqb}
 use lib.ListN as ListN
-use Rattle.header.specs.Field.{pick}
+use Rattle.field.specs.Field.{pick}
 use Rattle.store.specs.Slot.{headerSize}
 use Rattle.window.specs.Book.{Origin, connection, isFrom, places}
 use Rattle.window.specs.Book as W

@@ -3,8 +3,8 @@
 use Prim.Native.Nat.{ℕ}
 use mathlib.Core.List.{List, [], _∷_, _++_}
 use lib.ListN.{replicate}
-use Rattle.header.specs.Field.{bytesOf}
-use Rattle.header.specs.declared.response.Response.the-variants as R
+use Rattle.field.specs.Field.{bytesOf}
+use Rattle.response_header.specs.declared.Response.the-variants as R
 use Rattle.window.specs.Book as W
 use Rattle.session.specs.Book.{Book, freshBook, Call, offer, take, send, snack, windowNumbers, Answer, window, run, numbers}
 use Rattle.session.specs.History.{Event, bookRun, bookAfter}

@@ -2,19 +2,22 @@
 use crate::Session;
 use crate::connection::Reached;
 use crate::connection::reach;
-use header::refusal::Refusal;
-use header::request::LIMITS;
-use header::request::Pdu;
-use header::request::ReadAnswer;
-use header::request::Request;
+use field::be32;
+use field::flag;
+use refusal::Refusal;
+use request_header::LIMITS;
+use request_header::Verdict;
 use store::HEADER_BYTES;
 use window::Taken;
 use window::WINDOW_BYTES;
 use window::WINDOW_SLOTS;
 ghost use mathlib.Core.Path.{_≡_};
 ghost use mathlib.Core.List.{List, []};
-ghost use Prim.Native.Nat.{ℕ};
-ghost use Rattle.header.specs.Request.{limits, readPdu, got};
+ghost use mathlib.Core.Bool.{true, false};
+ghost use Prim.Native.Nat.{ℕ, _≤_};
+ghost use lib.ListN.{length};
+ghost use lib.Dec.{eqb};
+ghost use Rattle.request_header.specs.Request.{limits, readPdu, got, pduOf, requestOf, opcodeOf};
 ghost use Rattle.session.specs.Book.{Call, isOffered, offeredAs};
 ghost use Rattle.session.specs.Agree.{Did, state, offeredOf, offerAnswer, takeAnswer};
 
@@ -46,30 +49,32 @@ pub struct TakeStep {
     pub session: Session,
 }
 
-// Whether a request is one that is offered.
-fn is_offered(r: Request) -> bool
-    ensures { λ x. ⌜ x ≡ isOffered r ⌝ }
+// Whether the opcode is that of a request that is offered.
+fn is_offered(op: u8) -> bool
+    ensures { λ x. ⌜ ((s : List ℕ) → x ≡ isOffered (requestOf op s)) × (x ≡ true → eqb op 0x10 ≡ false) ⌝ }
 {
-    match r {
-        Request::NopOut(_) => true,
-        Request::ScsiCommand(_) => true,
-        Request::TaskManagement(_) => true,
-        Request::Login(_) => false,
-        Request::Logout(_) => true,
-        Request::Snack(_) => false,
+    match op {
+        0x00 => true,
+        0x01 => true,
+        0x02 => true,
+        0x03 => false,
+        0x06 => true,
+        _ => false,
     }
 }
 
-// What a read PDU is as an offer: FIELD for another kind, immediate where I is set, else numbered.
-fn offered_as(p: Pdu) -> Offered
-    ensures { λ r. ⌜ offeredOf r ≡ offeredAs (got p) ⌝ }
+// What a good PDU is as an offer: FIELD for another kind, immediate where I is set, else numbered. Of its fields only these are taken
+// from the bytes.
+fn offered_as(pdu: &[u8]) -> Offered
+    requires { ⌜ 48 ≤ length (now pdu) ⌝ }
+    ensures { λ r. ⌜ offeredOf r ≡ offeredAs (got (pduOf (opcodeOf (now (pdu .entry))) (now (pdu .entry)))) ⌝ }
 {
-    let r = p.request;
-    if is_offered(r) {
-        if p.immediate {
+    let first = pdu[0];
+    if is_offered(first % 64) {
+        if flag(first, 64) {
             Offered::Immediate
         } else {
-            Offered::Numbered(p.cmd_sn)
+            Offered::Numbered(be32(pdu, 24))
         }
     } else {
         Offered::Refused(Refusal::Field)
@@ -80,9 +85,9 @@ fn offered_as(p: Pdu) -> Offered
 fn read_offer(pdu: &[u8]) -> Offered
     ensures { λ r. ⌜ offeredOf r ≡ offeredAs (readPdu limits (now (pdu .entry))) ⌝ }
 {
-    match header::read::read(pdu, LIMITS) {
-        ReadAnswer::Refused(f) => Offered::Refused(f),
-        ReadAnswer::Got(p) => offered_as(p),
+    match request_header::read::judge(pdu, LIMITS) {
+        Verdict::Refused(f) => Offered::Refused(f),
+        Verdict::Good => offered_as(pdu),
     }
 }
 

@@ -1,7 +1,7 @@
 // The connections of a session: opening one, and the logout that closes it or them all.
 use crate::Session;
-use header::refusal::Refusal;
 use ledger::Ledger;
+use refusal::Refusal;
 use window::CONNECTIONS;
 use window::CONNS;
 ghost use mathlib.Core.Path.{_≡_};

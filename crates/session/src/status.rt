@@ -3,22 +3,24 @@ use crate::Session;
 use crate::connection::Reached;
 use crate::connection::reach;
 use crate::connection::with_ledger;
-use header::refusal::Refusal;
-use header::request::LIMITS;
-use header::request::ReadAnswer;
-use header::request::Request;
-use header::response::Response;
+use field::be32;
 use ledger::Acknowledged;
 use ledger::LEDGER_BYTES;
 use ledger::LEDGER_SLOTS;
 use ledger::Resent;
 use ledger::Run;
 use ledger::Sent;
+use refusal::Refusal;
+use request_header::LIMITS;
+use request_header::Verdict;
+use response_header::Response;
 use store::HEADER_BYTES;
 ghost use mathlib.Core.Path.{_≡_};
 ghost use mathlib.Core.List.{List, []};
-ghost use Prim.Native.Nat.{ℕ};
-ghost use Rattle.header.specs.Request.{limits, readPdu};
+ghost use Prim.Native.Nat.{ℕ, _≤_};
+ghost use lib.ListN.{length};
+ghost use Rattle.request_header.specs.declared.Request.the-variants as Request;
+ghost use Rattle.request_header.specs.Request.{limits, readPdu, requestOf, snackOf, opcodeOf};
 ghost use Rattle.session.specs.Book.{Call, askedBy, asked};
 ghost use Rattle.session.specs.Agree.{Did, state, askedOf, sendAnswer, acknowledgeAnswer, snackAnswer, resendAnswer};
 
@@ -148,26 +150,35 @@ pub fn acknowledge(s: Session, conn: u32, exp_stat_sn: u32) -> AcknowledgeStep
     }
 }
 
-// What a request asks for as a status SNACK: FIELD for another kind, SNACK for another type or at level 0.
-fn asked_by(level: u8, r: Request) -> Asked
-    ensures { λ x. ⌜ askedOf x ≡ askedBy level r ⌝ }
+// What a good SNACK asks for as a status SNACK: SNACK for another type or at level 0.
+fn run_in(level: u8, pdu: &[u8]) -> Asked
+    requires { ⌜ 48 ≤ length (now pdu) ⌝ }
+    ensures { λ x. ⌜ askedOf x ≡ askedBy level (Request.Snack (snackOf (now (pdu .entry)))) ⌝ }
 {
-    match r {
-        Request::NopOut(_) => Asked::Refused(Refusal::Field),
-        Request::ScsiCommand(_) => Asked::Refused(Refusal::Field),
-        Request::TaskManagement(_) => Asked::Refused(Refusal::Field),
-        Request::Login(_) => Asked::Refused(Refusal::Field),
-        Request::Logout(_) => Asked::Refused(Refusal::Field),
-        Request::Snack(x) => {
-            if (x.snack_type == 1) & (level != 0) {
-                Asked::Run {
-                    beg_run: x.beg_run,
-                    run_length: x.run_length,
-                }
-            } else {
-                Asked::Refused(Refusal::Snack)
-            }
+    let snack_type = pdu[1] % 16;
+    if (snack_type == 1) & (level != 0) {
+        Asked::Run {
+            beg_run: be32(pdu, 40),
+            run_length: be32(pdu, 44),
         }
+    } else {
+        Asked::Refused(Refusal::Snack)
+    }
+}
+
+// What a good PDU asks for: FIELD for another kind.
+fn asked_by(level: u8, pdu: &[u8]) -> Asked
+    requires { ⌜ 48 ≤ length (now pdu) ⌝ }
+    ensures { λ x. ⌜ askedOf x ≡ askedBy level (requestOf (opcodeOf (now (pdu .entry))) (now (pdu .entry))) ⌝ }
+{
+    let op = pdu[0] % 64;
+    match op {
+        0x00 => Asked::Refused(Refusal::Field),
+        0x01 => Asked::Refused(Refusal::Field),
+        0x02 => Asked::Refused(Refusal::Field),
+        0x03 => Asked::Refused(Refusal::Field),
+        0x06 => Asked::Refused(Refusal::Field),
+        _ => run_in(level, pdu),
     }
 }
 
@@ -175,12 +186,9 @@ fn asked_by(level: u8, r: Request) -> Asked
 fn read_snack(level: u8, pdu: &[u8]) -> Asked
     ensures { λ r. ⌜ askedOf r ≡ asked level (readPdu limits (now (pdu .entry))) ⌝ }
 {
-    match header::read::read(pdu, LIMITS) {
-        ReadAnswer::Refused(f) => Asked::Refused(f),
-        ReadAnswer::Got(p) => {
-            let r = p.request;
-            asked_by(level, r)
-        }
+    match request_header::read::judge(pdu, LIMITS) {
+        Verdict::Refused(f) => Asked::Refused(f),
+        Verdict::Good => asked_by(level, pdu),
     }
 }
 

@@ -18,7 +18,7 @@ use lib.Seq.{getD-set-same, getD-set-other, getD-take, length-take-le}
 use Rattle.window.specs.declared.Window.{Window}
 use Rattle.window.specs.Bit.{bitAt, without, eachWithout}
 use Rattle.window.specs.Book.{Origin, none, connection, Place, empty, holds, Book, next, gapless, logout, loggedOut, step, one-if, isFrom, concerns, spared, before, after, left, emptiedAt, voidedAt, sumOf, afterLogout, logoutStep, bookStep}
-use Rattle.header.specs.Field.{pick}
+use Rattle.field.specs.Field.{pick}
 use Rattle.window.specs.Agree.{state, heldBit, voidBit, originBit, Maps, SlotHas, Agrees}
 use Rattle.window.proofs.Bits.{bit-none, bit-lt, bit-or, bit-and, bit-high, bit-below, bit-above, bit-without, without-lt, ones-count, ones-from}
 

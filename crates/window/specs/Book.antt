@@ -5,7 +5,7 @@ use mathlib.Core.List.{List, [], _∷_, _++_}
 use lib.Dec.{ltb, leb, eqb}
 use lib.ListN as ListN
 use lib.ListN.{getD, set, drop, replicate}
-use Rattle.header.specs.Field.{pick}
+use Rattle.field.specs.Field.{pick}
 use Rattle.store.specs.Slot.{headerSize}
 
 -- "64 places".

@@ -11,7 +11,7 @@ ghost use lib.Dec.{eqb, ltb};
 ghost use Rattle.store.specs.Slot.{headerSize};
 ghost use Rattle.window.specs.Bit.{without, eachWithout};
 ghost use Rattle.window.specs.Book.{Book, connections, remembered, expCmdSN, maxCmdSN, Call, Answer, handedOn, firstPlace, closeSession, recovery};
-ghost use Rattle.header.specs.Field.{pick};
+ghost use Rattle.field.specs.Field.{pick};
 ghost use Rattle.window.specs.Agree.{Agrees, Did, IsFresh, OriginAt, state, offerAnswer, takeAnswer, originOf};
 
 // The places of a window; how many slots they have, and the bytes that these take.

@@ -6,7 +6,7 @@ ghost use lib.ListN.{getD, set};
 ghost use lib.Dec.{ltb};
 ghost use Rattle.window.specs.Bit.{bitAt, withBit, without, eachWithout};
 ghost use Rattle.window.specs.Book.{places, connections};
-ghost use Rattle.header.specs.Field.{pick};
+ghost use Rattle.field.specs.Field.{pick};
 ghost use Rattle.window.specs.Agree.{Counts};
 use crate::CONNECTIONS;
 use crate::CONNS;

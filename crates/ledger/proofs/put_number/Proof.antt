@@ -6,8 +6,8 @@ use Prim.Native.Nat.{_+_, _-_, _%_, _≤_}
 use mathlib.Core.Path.{_≡_, refl, sym, _∙_}
 use native.Mathlib.Omega.{arith}
 use lib.Seq.{sets}
-use Rattle.header.specs.Field.{bytesOf}
-use Rattle.header.proofs.Laws.{put-step}
+use Rattle.field.specs.Field.{bytesOf}
+use Rattle.field.proofs.Laws.{put-step}
 use Rattle.ledger.proofs.put_number.Statement.{statement}
 use Rattle.ledger.proofs.put_number.Tie as tie
 

@@ -7,10 +7,10 @@ use borrow.Author.Needs.{needs}
 use lib.ListN.{length}
 use Rattle.ledger.specs.Book.{isStatus}
 use Rattle.ledger.proofs.Laws.{sending-refused, sending-unstored, sending-full, sending-stored, front, sends-refused, sends-unstored, sends-stored}
-use Rattle.header.specs.Response.{judgementNumber}
-use Rattle.header.specs.declared.response.Judgement.{Judgement}
-use Rattle.header.specs.declared.response.Judgement.the-variants as J
-use Rattle.header.specs.declared.refusal.Refusal.the-variants as F
+use Rattle.response_header.specs.Response.{judgementNumber}
+use Rattle.response_header.specs.declared.Judgement.{Judgement}
+use Rattle.response_header.specs.declared.Judgement.the-variants as J
+use Rattle.refusal.specs.declared.Refusal.the-variants as F
 use Rattle.ledger.proofs.send.Statement.{statement}
 use Rattle.ledger.proofs.send.Tie as tie
 

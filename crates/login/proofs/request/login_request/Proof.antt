@@ -1,5 +1,5 @@
 use Rattle.text.proofs.Laws.{past, here}
-use Rattle.header.specs.Request as Read
+use Rattle.request_header.specs.Request as Read
 use Rattle.login.specs.Login.{loginStep}
 use Rattle.login.proofs.Answers.{reading-status, found-is}
 use mathlib.Core.Path.{sym, ap, _∙_}

@@ -1,32 +1,36 @@
--- `session::status::asked_by` meets its contract: by kind, then type and level.
+-- `session::status::asked_by` meets its contract: by opcode.
 use Prim.Native.Nat.{_-_}
+use borrow.Author.Tests.{ne-eqb}
 use borrow.Author.Needs.{needs}
+use Rattle.request_header.specs.Request.{requestOf}
 use Rattle.session.proofs.status.asked_by.Statement.{statement}
 use Rattle.session.proofs.status.asked_by.Tie as tie
 
 returns : tie.Need-returns
-returns c = rw (c .enum-told .given .1)
+unfolding requestOf
+returns c = rw (c .match .keys1)
 
 returns-2 : tie.Need-returns-2
-returns-2 c = rw (c .enum-told2 .given .1)
+unfolding requestOf
+returns-2 c = rw (c .match .keys2)
 
 returns-3 : tie.Need-returns-3
-returns-3 c = rw (c .enum-told3 .given .1)
+unfolding requestOf
+returns-3 c = rw (c .match .keys3)
 
 returns-4 : tie.Need-returns-4
-returns-4 c = rw (c .enum-told4 .given .1)
+unfolding requestOf
+returns-4 c = rw (c .match .keys4)
 
 returns-5 : tie.Need-returns-5
-returns-5 c = rw (c .enum-told5 .given .1)
+unfolding requestOf
+returns-5 c = rw (c .match .keys5)
 
 returns-6 : tie.Need-returns-6
-returns-6 c = rw (c .before .before .before .r .given .1, c .if1 .taken)
-
-returns-7 : tie.Need-returns-7
-returns-7 c = rw (c .before .before .before .r .given .1, c .if1 .left)
+unfolding requestOf
+returns-6 c =
+    let n = c .before .match .rest in
+    rw (ne-eqb _ _ (n .0 .0 .0 .0 .1), ne-eqb _ _ (n .0 .0 .0 .1), ne-eqb _ _ (n .0 .0 .1), ne-eqb _ _ (n .0 .1), ne-eqb _ _ (n .1)) (c .run-in .ensures)
 
 pub asked-by-spec : {M : Type 1} → statement M
-asked-by-spec =
-    tie.close (tie.spec
-    (λ c. search needs) (λ c. search needs) (λ c. search needs) (λ c. search needs) (λ c. search needs)
-    (λ c. search needs) returns returns-2 returns-3 returns-4 returns-5 returns-6 returns-7)
+asked-by-spec = tie.close (tie.spec (λ c. search needs) (λ c κs. search needs) returns returns-2 returns-3 returns-4 returns-5 returns-6)

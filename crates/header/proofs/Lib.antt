@@ -1,5 +1,0 @@
-pub mod Laws
-pub mod Reading
-pub mod Writing
-pub mod Table
-pub mod Layouts

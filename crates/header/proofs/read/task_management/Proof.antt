@@ -1,8 +1,0 @@
-use borrow.Author.Needs.{needs}
-use Rattle.header.proofs.read.task_management.Statement.{statement}
-use Rattle.header.proofs.read.task_management.Tie as tie
-
-pub task-management-spec : {M : Type 1} → statement M
-task-management-spec =
-    tie.close (tie.spec
-    (λ c. search needs) (λ c κs. search needs) (λ c κs. search needs) (λ c κs. search needs) (λ c. cc))

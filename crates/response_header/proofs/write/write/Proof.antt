@@ -1,0 +1,25 @@
+use mathlib.Core.Path.{_≡_, refl, sym, ap, _∙_}
+use borrow.Author.Needs.{needs}
+use Rattle.refusal.proofs.Laws.{number-positive}
+use borrow.Author.Tests.{lt-ltb, le-ltb, le-leb, lt-leb, eq-eqb, ne-eqb, not-true, not-false}
+use Rattle.response_header.specs.Response.{writing}
+use Rattle.response_header.proofs.write.write.Statement.{statement}
+use Rattle.response_header.proofs.write.write.Tie as tie
+
+returns : tie.Need-returns
+unfolding writing
+returns c = rw (lt-ltb _ _ (c .if1 .taken))
+
+returns-2 : tie.Need-returns-2
+unfolding writing
+returns-2 c = rw (le-ltb _ _ (c .before .before .before .before .if1 .left), ← (c .before .before .before .judge .ensures), c .before .f .given .1, number-positive)
+
+returns-3 : tie.Need-returns-3
+unfolding writing
+returns-3 c = rw (le-ltb _ _ (c .before .before .before .before .before .before .before .before .if1 .left), ← (c .before .before .before .before .before .before .before .judge .ensures), c .before .before .before .before .before .enum-told .given .1, ← (c .before .before .before .before .header .ensures), ← (c .before .before .copy .ensures))
+
+pub write-spec : {M : Type 1} → statement M
+write-spec =
+    tie.close (tie.spec
+    returns (λ c κs. search needs) (λ c. search needs) (λ c. search needs) (λ c κs. search needs) (λ c κs. search needs)
+    returns-2 (λ c. search needs) returns-3)
