@@ -6,7 +6,7 @@ use Prim.Native.Nat.{ℕ, _<_, _%_, _^_}
 use native.Mathlib.Nat.{mod-eq-of-lt}
 use native.Mathlib.Omega.{arith}
 use lib.ListN.{length, getD}
-use Rattle.capi.specs.Words.{isSet, flagWord}
+use Rattle.words.specs.Words.{isSet, flagWord}
 use Rattle.capi.specs.State.{ledgerAt, sessionOf}
 use Rattle.ledger.specs.declared.Ledger.{Ledger}
 use Rattle.window.specs.declared.Window.{Window}

@@ -6,8 +6,8 @@ use lib.ListN.{replicate}
 use Rattle.window.specs.Book as W
 use Rattle.session.specs.Book.{Call, send, Answer, freshBook, refused, immediate, opened, window, sent, acknowledged, run, resent, numbers}
 use Rattle.session.specs.Agree.{State, Did, Agrees}
-use Rattle.capi.specs.declared.words.Made.{Made}
-use Rattle.capi.specs.declared.words.Made.the-variants.{Known, Unknown}
+use Rattle.words.specs.declared.response.Made.{Made}
+use Rattle.words.specs.declared.response.Made.the-variants.{Known, Unknown}
 
 -- the connection that a command came on; 4 where it has none
 abbrev pub originWord : W.Origin → ℕ

@@ -1,4 +1,3 @@
-pub mod Words
 pub mod Pdu
 pub mod State
 pub mod Answer

@@ -4,7 +4,7 @@ use mathlib.Core.Path.{_≡_}
 use mathlib.Core.Bool.{Bool, true, false}
 use mathlib.Core.List.{List, [], _∷_}
 use Rattle.refusal.specs.Refusal.{number, status}
-use Rattle.capi.specs.Words.{word, isSet, flagWord}
+use Rattle.words.specs.Words.{word, isSet, flagWord}
 use Rattle.login.specs.Login.{Outcome, answerOf}
 use Rattle.login.specs.declared.state.State.{State}
 use Rattle.login.specs.declared.state.Answer as A

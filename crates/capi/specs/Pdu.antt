@@ -7,9 +7,9 @@ use Rattle.field.specs.Field.{pick}
 use Rattle.request_header.specs.Request.{Answer, got, refused}
 use Rattle.response_header.specs.Response.{Outcome, writing, maxData}
 use Rattle.response_header.specs.declared.Numbers.{Numbers}
-use Rattle.capi.specs.declared.words.Made.{Made}
-use Rattle.capi.specs.declared.words.Made.the-variants.{Known, Unknown}
-use Rattle.capi.specs.Words.{pduWords}
+use Rattle.words.specs.declared.response.Made.{Made}
+use Rattle.words.specs.declared.response.Made.the-variants.{Known, Unknown}
+use Rattle.words.specs.Words.{pduWords}
 
 -- 0 or the refusal's number, and the words after the call
 pub record ReadWords : Type 0 where

@@ -1,7 +1,7 @@
 -- A session between calls: 15 numbers of 32 bits and 6 maps of 64 bits.
 use Prim.Native.Nat.{ℕ, _%_, _^_}
 use mathlib.Core.List.{List, [], _∷_}
-use Rattle.capi.specs.Words.{word, isSet, flagWord}
+use Rattle.words.specs.Words.{word, isSet, flagWord}
 use Rattle.ledger.specs.declared.Ledger.{Ledger}
 use Rattle.window.specs.declared.Window.{Window}
 use Rattle.session.specs.declared.Session.{Session}

@@ -3,17 +3,17 @@
 use crate::answers;
 use crate::state::load;
 use crate::state::store;
-use crate::words::Made;
-use crate::words::response;
 use refusal::Refusal;
 use response_header::Response;
+use words::response::Made;
+use words::response::response;
 ghost use mathlib.Core.List.{List, []};
 ghost use Prim.Native.Nat.{ℕ};
 ghost use Rattle.session.specs.Book.{Call};
 ghost use Rattle.session.specs.Agree.{state};
 ghost use Rattle.capi.specs.State.{sessionOf};
 ghost use Rattle.capi.specs.Answer.{Said, SaidSend, Fresh};
-ghost use Rattle.capi.specs.Words.{responseOf};
+ghost use Rattle.words.specs.Words.{responseOf};
 
 // Offers a whole PDU with its ticket on a connection.
 #[no_mangle]

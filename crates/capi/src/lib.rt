@@ -5,4 +5,3 @@ pub mod calls;
 pub mod logins;
 pub mod pdu;
 mod state;
-mod words;

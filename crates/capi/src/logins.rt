@@ -1,14 +1,14 @@
 // The login phase for C. A login is eight numbers, its settled values and which keys came; each call is lent these, the gather area and
 // the text output.
-use crate::words::flag;
-use crate::words::low8;
-use crate::words::low16;
 use keys::parameters::Parameters;
 use keys::parameters::Settled;
 use login::state::Answer;
 use login::state::State;
 use refusal::number_of;
 use refusal::status_of;
+use words::flag;
+use words::low8;
+use words::low16;
 ghost use mathlib.Core.Path.{_≡_};
 ghost use Rattle.login.specs.Login.{Outcome, answerOf, loginStep, freshLogin};
 ghost use Rattle.capi.specs.Login.{loginOf, loginWords, LoginSaid};

@@ -1,17 +1,16 @@
 // The header reader and writer for C.
-use crate::words::Made;
-use crate::words::pdu_words;
-use crate::words::response;
 use request_header::LIMITS;
-use request_header::ReadAnswer;
+use request_header::Verdict;
 use response_header::MAX_DATA;
 use response_header::Numbers;
 use response_header::Response;
 use response_header::WriteAnswer;
+use words::response::Made;
+use words::response::response;
 ghost use mathlib.Core.Path.{_≡_};
 ghost use Rattle.request_header.specs.Request.{limits, readPdu};
 ghost use Rattle.response_header.specs.Response.{Outcome};
-ghost use Rattle.capi.specs.Words.{responseOf};
+ghost use Rattle.words.specs.Words.{responseOf};
 ghost use Rattle.capi.specs.Pdu.{ReadWords, readWords, writeWords, numbersOf};
 
 // Reads a PDU: 0 and its words, or the refusal's number, which leaves pdu as it was.
@@ -19,10 +18,10 @@ ghost use Rattle.capi.specs.Pdu.{ReadWords, readWords, writeWords, numbe
 pub extern "C" fn drawbevel_core_read(input: &[u8], pdu: &mut [u64; 17]) -> u32
     ensures { λ r. ⌜ _≡_ {A = ReadWords} (record { answer = r; words = now (pdu .exit) }) (readWords (readPdu limits (now (input .entry))) (now (pdu .entry))) ⌝ }
 {
-    match request_header::read::read(input, LIMITS) {
-        ReadAnswer::Refused(f) => refusal::number_of(f) as u32,
-        ReadAnswer::Got(p) => {
-            let w = pdu_words(p);
+    match request_header::read::judge(input, LIMITS) {
+        Verdict::Refused(f) => refusal::number_of(f) as u32,
+        Verdict::Good => {
+            let w = words::request::words(input);
             *pdu = w;
             0
         }

@@ -4,7 +4,7 @@ use session::Session;
 use window::Window;
 ghost use mathlib.Core.Path.{_≡_};
 ghost use Rattle.capi.specs.State.{ledgerAt, sessionOf};
-ghost use Rattle.capi.specs.Words.{flagWord};
+ghost use Rattle.words.specs.Words.{flagWord};
 
 // The ledger whose three numbers start at `at`.
 fn ledger_at(is_open: u32, next: u32, held: u32) -> Ledger

@@ -1,9 +1,9 @@
 use mathlib.Core.Path.{_≡_, refl, sym, ap, _∙_}
 use borrow.Author.Needs.{needs}
 use borrow.Author.Tests.{lt-ltb, le-ltb, le-leb, lt-leb, eq-eqb, ne-eqb, not-true, not-false}
-use Rattle.capi.specs.Words.{responseOf}
-use Rattle.capi.proofs.words.response.Statement.{statement}
-use Rattle.capi.proofs.words.response.Tie as tie
+use Rattle.words.specs.Words.{responseOf}
+use Rattle.words.proofs.response.response.Statement.{statement}
+use Rattle.words.proofs.response.response.Tie as tie
 
 returns : tie.Need-returns
 unfolding responseOf

@@ -15,8 +15,8 @@ use Rattle.response_header.specs.declared.LoginResponse.{LoginResponse}
 use Rattle.response_header.specs.declared.LogoutResponse.{LogoutResponse}
 use Rattle.response_header.specs.declared.Reject.{Reject}
 use Rattle.response_header.specs.declared.Response.the-variants as R
-use Rattle.capi.specs.declared.words.Made.{Made}
-use Rattle.capi.specs.declared.words.Made.the-variants.{Known, Unknown}
+use Rattle.words.specs.declared.response.Made.{Made}
+use Rattle.words.specs.declared.response.Made.the-variants.{Known, Unknown}
 
 -- ---- read
 

@@ -1,6 +1,6 @@
 use borrow.Author.Needs.{needs}
-use Rattle.capi.proofs.words.nop_in.Statement.{statement}
-use Rattle.capi.proofs.words.nop_in.Tie as tie
+use Rattle.words.proofs.response.nop_in.Statement.{statement}
+use Rattle.words.proofs.response.nop_in.Tie as tie
 
 pub nop-in-spec : {M : Type 1} → statement M
 nop-in-spec =

@@ -1,6 +1,6 @@
 use borrow.Author.Needs.{needs}
-use Rattle.capi.proofs.words.scsi_response.Statement.{statement}
-use Rattle.capi.proofs.words.scsi_response.Tie as tie
+use Rattle.words.proofs.response.scsi_response.Statement.{statement}
+use Rattle.words.proofs.response.scsi_response.Tie as tie
 
 pub scsi-response-spec : {M : Type 1} → statement M
 scsi-response-spec =

@@ -1,6 +1,6 @@
 use borrow.Author.Needs.{needs}
-use Rattle.capi.proofs.words.task_management_response.Statement.{statement}
-use Rattle.capi.proofs.words.task_management_response.Tie as tie
+use Rattle.words.proofs.response.task_management_response.Statement.{statement}
+use Rattle.words.proofs.response.task_management_response.Tie as tie
 
 pub task-management-response-spec : {M : Type 1} → statement M
 task-management-response-spec =

@@ -1,6 +1,6 @@
 use borrow.Author.Needs.{needs}
-use Rattle.capi.proofs.words.logout_response.Statement.{statement}
-use Rattle.capi.proofs.words.logout_response.Tie as tie
+use Rattle.words.proofs.response.logout_response.Statement.{statement}
+use Rattle.words.proofs.response.logout_response.Tie as tie
 
 pub logout-response-spec : {M : Type 1} → statement M
 logout-response-spec =

@@ -1,6 +1,6 @@
 use borrow.Author.Needs.{needs}
-use Rattle.capi.proofs.words.login_response.Statement.{statement}
-use Rattle.capi.proofs.words.login_response.Tie as tie
+use Rattle.words.proofs.response.login_response.Statement.{statement}
+use Rattle.words.proofs.response.login_response.Tie as tie
 
 pub login-response-spec : {M : Type 1} → statement M
 login-response-spec =

@@ -1,0 +1,115 @@
+// The words of a request, from the bytes of its header.
+use crate::flag;
+use field::HEADER_BYTES;
+use field::be;
+ghost use mathlib.Core.Path.{_≡_};
+ghost use Prim.Native.Nat.{_≤_};
+ghost use lib.ListN.{length};
+ghost use Rattle.field.specs.Field.{beAt, pick};
+ghost use Rattle.request_header.specs.Request.{pduOf, requestOf, opcodeOf, scsiCommandOf, loginOf};
+ghost use Rattle.request_header.specs.declared.Request.the-variants as Q;
+ghost use Rattle.words.specs.Words.{requestWords, pduWords};
+
+fn scsi_command(s: &[u8], tag: u64, cdb_0: u64, cdb_1: u64) -> [u64; 10]
+    requires { ⌜ (48 ≤ length (now s)) × (tag ≡ beAt (now s) 20 4) × («cdb_0» ≡ beAt (now s) 32 8) × («cdb_1» ≡ beAt (now s) 40 8) ⌝ }
+    ensures { λ w. ⌜ w ≡ requestWords (Q.ScsiCommand (scsiCommandOf (now (s .entry)))) ⌝ }
+{
+    let b = s[1];
+    [
+        0x01,
+        flag(field::flag(b, 128)),
+        flag(field::flag(b, 64)),
+        flag(field::flag(b, 32)),
+        (b % 8) as u64,
+        s[4] as u64,
+        tag,
+        cdb_0,
+        cdb_1,
+        0,
+    ]
+}
+
+fn login(s: &[u8], lun: u64, tag: u64) -> [u64; 10]
+    requires { ⌜ (48 ≤ length (now s)) × (lun ≡ beAt (now s) 8 8) × (tag ≡ beAt (now s) 20 4) ⌝ }
+    ensures { λ w. ⌜ w ≡ requestWords (Q.Login (loginOf (now (s .entry)))) ⌝ }
+{
+    let b = s[1];
+    [
+        0x03,
+        flag(field::flag(b, 128)),
+        flag(field::flag(b, 64)),
+        (b / 4 % 4) as u64,
+        (b % 4) as u64,
+        s[2] as u64,
+        s[3] as u64,
+        lun / 65536,
+        lun % 65536,
+        tag / 65536,
+    ]
+}
+
+// The opcode and the request's own fields, of which the wide ones are given in whole words.
+fn own_words(s: &[u8], op: u8, lun: u64, tag: u64, cdb_0: u64, cdb_1: u64) -> [u64; 10]
+    requires { ⌜ (48 ≤ length (now s)) × (lun ≡ beAt (now s) 8 8) × (tag ≡ beAt (now s) 20 4) × («cdb_0» ≡ beAt (now s) 32 8) × («cdb_1» ≡ beAt (now s) 40 8) ⌝ }
+    ensures { λ w. ⌜ w ≡ requestWords (requestOf op (now (s .entry))) ⌝ }
+{
+    let b = s[1];
+    let high_0 = cdb_0 / 0x1_0000_0000;
+    let low_0 = cdb_0 % 0x1_0000_0000;
+    let high_1 = cdb_1 / 0x1_0000_0000;
+    let low_1 = cdb_1 % 0x1_0000_0000;
+    match op {
+        0x00 => [0x00, tag, 0, 0, 0, 0, 0, 0, 0, 0],
+        0x01 => scsi_command(s, tag, cdb_0, cdb_1),
+        0x02 => [0x02, (b % 128) as u64, tag, high_0, low_0, 0, 0, 0, 0, 0],
+        0x03 => login(s, lun, tag),
+        0x06 => [0x06, (b % 128) as u64, tag / 65536, 0, 0, 0, 0, 0, 0, 0],
+        _ => [0x10, (b % 16) as u64, tag, high_1, low_1, 0, 0, 0, 0, 0],
+    }
+}
+
+// A field that the request has, unless it is absent: then 0.
+fn unless(absent: bool, field: u64) -> u64
+    ensures { λ r. ⌜ r ≡ pick absent 0 field ⌝ }
+{
+    if absent { 0 } else { field }
+}
+
+// The words of a PDU from its header. Each word of the header is loaded whole before the kind decides what it is: were each kind to load its
+// own fields, they would be loaded byte by byte.
+pub fn words(s: &[u8]) -> [u64; 17]
+    requires { ⌜ 48 ≤ length (now s) ⌝ }
+    ensures { λ w. ⌜ w ≡ pduWords (pduOf (opcodeOf (now (s .entry))) (now (s .entry))) ⌝ }
+{
+    let first = s[0];
+    let op = first % 64;
+    let lun = be(s, 8, 8);
+    let tag = be(s, 20, 4);
+    let cdb_0 = be(s, 32, 8);
+    let cdb_1 = be(s, 40, 8);
+    let own = own_words(s, op, lun, tag, cdb_0, cdb_1);
+    let itt = be(s, 16, 4);
+    let cmd_sn = be(s, 24, 4);
+    let exp_stat_sn = be(s, 28, 4);
+    let data_start = (HEADER_BYTES + s[4] as usize * 4) as u64;
+    let data_length = be(s, 5, 3);
+    [
+        own[0],
+        flag(field::flag(first, 64) & (op != 0x10)),
+        unless(op == 0x10, cmd_sn),
+        unless((op == 0x03) | (op == 0x06), lun),
+        itt,
+        exp_stat_sn,
+        data_start,
+        data_length,
+        own[1],
+        own[2],
+        own[3],
+        own[4],
+        own[5],
+        own[6],
+        own[7],
+        own[8],
+        own[9],
+    ]
+}
