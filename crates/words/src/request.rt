@@ -29,8 +29,8 @@ fn scsi_command(s: &[u8], tag: u64, cdb_0: u64, cdb_1: u64) -> [u64; 10]
     ]
 }
 
-fn login(s: &[u8], lun: u64, tag: u64) -> [u64; 10]
-    requires { ⌜ (48 ≤ length (now s)) × (lun ≡ beAt (now s) 8 8) × (tag ≡ beAt (now s) 20 4) ⌝ }
+fn login(s: &[u8], isid: u64, tsih: u64, cid: u64) -> [u64; 10]
+    requires { ⌜ (48 ≤ length (now s)) × (isid ≡ beAt (now s) 8 6) × (tsih ≡ beAt (now s) 14 2) × (cid ≡ beAt (now s) 20 2) ⌝ }
     ensures { λ w. ⌜ w ≡ requestWords (Q.Login (loginOf (now (s .entry)))) ⌝ }
 {
     let b = s[1];
@@ -42,29 +42,38 @@ fn login(s: &[u8], lun: u64, tag: u64) -> [u64; 10]
         (b % 4) as u64,
         s[2] as u64,
         s[3] as u64,
-        lun / 65536,
-        lun % 65536,
-        tag / 65536,
+        isid,
+        tsih,
+        cid,
     ]
 }
 
-// The opcode and the request's own fields, of which the wide ones are given in whole words.
-fn own_words(s: &[u8], op: u8, lun: u64, tag: u64, cdb_0: u64, cdb_1: u64) -> [u64; 10]
-    requires { ⌜ (48 ≤ length (now s)) × (lun ≡ beAt (now s) 8 8) × (tag ≡ beAt (now s) 20 4) × («cdb_0» ≡ beAt (now s) 32 8) × («cdb_1» ≡ beAt (now s) 40 8) ⌝ }
+// The opcode and the request's own fields. The parts of the header that some kind shows apart are loaded apart, before the kind decides, and
+// wider fields are made of them: so the compiler loads each part whole.
+fn own_words(s: &[u8], op: u8, isid: u64, tsih: u64) -> [u64; 10]
+    requires { ⌜ (48 ≤ length (now s)) × (isid ≡ beAt (now s) 8 6) × (tsih ≡ beAt (now s) 14 2) ⌝ }
     ensures { λ w. ⌜ w ≡ requestWords (requestOf op (now (s .entry))) ⌝ }
 {
     let b = s[1];
-    let high_0 = cdb_0 / 0x1_0000_0000;
-    let low_0 = cdb_0 % 0x1_0000_0000;
-    let high_1 = cdb_1 / 0x1_0000_0000;
-    let low_1 = cdb_1 % 0x1_0000_0000;
+    let cid = be(s, 20, 2);
+    let low_tag = be(s, 22, 2);
+    let at_32 = be(s, 32, 4);
+    let at_36 = be(s, 36, 4);
+    let at_40 = be(s, 40, 4);
+    let at_44 = be(s, 44, 4);
+    let tag = cid * 65536 + low_tag;
     match op {
         0x00 => [0x00, tag, 0, 0, 0, 0, 0, 0, 0, 0],
-        0x01 => scsi_command(s, tag, cdb_0, cdb_1),
-        0x02 => [0x02, (b % 128) as u64, tag, high_0, low_0, 0, 0, 0, 0, 0],
-        0x03 => login(s, lun, tag),
-        0x06 => [0x06, (b % 128) as u64, tag / 65536, 0, 0, 0, 0, 0, 0, 0],
-        _ => [0x10, (b % 16) as u64, tag, high_1, low_1, 0, 0, 0, 0, 0],
+        0x01 => scsi_command(
+            s,
+            tag,
+            at_32 * 0x1_0000_0000 + at_36,
+            at_40 * 0x1_0000_0000 + at_44,
+        ),
+        0x02 => [0x02, (b % 128) as u64, tag, at_32, at_36, 0, 0, 0, 0, 0],
+        0x03 => login(s, isid, tsih, cid),
+        0x06 => [0x06, (b % 128) as u64, cid, 0, 0, 0, 0, 0, 0, 0],
+        _ => [0x10, (b % 16) as u64, tag, at_40, at_44, 0, 0, 0, 0, 0],
     }
 }
 
@@ -75,19 +84,16 @@ fn unless(absent: bool, field: u64) -> u64
     if absent { 0 } else { field }
 }
 
-// The words of a PDU from its header. Each word of the header is loaded whole before the kind decides what it is: were each kind to load its
-// own fields, they would be loaded byte by byte.
+// The words of a PDU, from its header.
 pub fn words(s: &[u8]) -> [u64; 17]
     requires { ⌜ 48 ≤ length (now s) ⌝ }
     ensures { λ w. ⌜ w ≡ pduWords (pduOf (opcodeOf (now (s .entry))) (now (s .entry))) ⌝ }
 {
     let first = s[0];
     let op = first % 64;
-    let lun = be(s, 8, 8);
-    let tag = be(s, 20, 4);
-    let cdb_0 = be(s, 32, 8);
-    let cdb_1 = be(s, 40, 8);
-    let own = own_words(s, op, lun, tag, cdb_0, cdb_1);
+    let isid = be(s, 8, 4) * 65536 + be(s, 12, 2);
+    let tsih = be(s, 14, 2);
+    let own = own_words(s, op, isid, tsih);
     let itt = be(s, 16, 4);
     let cmd_sn = be(s, 24, 4);
     let exp_stat_sn = be(s, 28, 4);
@@ -97,7 +103,7 @@ pub fn words(s: &[u8]) -> [u64; 17]
         own[0],
         flag(field::flag(first, 64) & (op != 0x10)),
         unless(op == 0x10, cmd_sn),
-        unless((op == 0x03) | (op == 0x06), lun),
+        unless((op == 0x03) | (op == 0x06), isid * 65536 + tsih),
         itt,
         exp_stat_sn,
         data_start,

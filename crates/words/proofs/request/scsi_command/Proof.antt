@@ -10,8 +10,17 @@ cast-t17 c = omega (arith, c .shared-slice-known3 .given 4)
 returns : tie.Need-returns
 unfolding requestWords
 returns c =
-    rw (c .before .before .before .before .before .flag2 .ensures, c .before .before .before .before .before .before .flag .ensures, c .before .before .before .flag4 .ensures, c .before .before .before .before .flag3 .ensures, c .before .flag6 .ensures, c .before .before .flag5 .ensures,
-    c .before .before .before .before .before .before .before .before .before .pre .1, c .before .before .before .before .before .before .before .before .before .pre .2, c .before .before .before .before .before .before .before .before .before .pre .3)
+    rw (
+      c .before .before .before .before .before .flag2 .ensures,
+      c .before .before .before .before .before .before .flag .ensures,
+      c .before .before .before .flag4 .ensures,
+      c .before .before .before .before .flag3 .ensures,
+      c .before .flag6 .ensures,
+      c .before .before .flag5 .ensures,
+      c .before .before .before .before .before .before .before .before .before .pre .1,
+      c .before .before .before .before .before .before .before .before .before .pre .2,
+      c .before .before .before .before .before .before .before .before .before .pre .3,
+    )
 
 pub scsi-command-spec : {M : Type 1} → statement M
 scsi-command-spec =
