@@ -8,7 +8,7 @@ use native.Mathlib.Nat.{pow-suc, mod-lt, div-add-mod', zero-add, add-assoc, mul-
 use native.Mathlib.Numerals.{add-one}
 use native.Mathlib.Omega.{arith}
 use lib.ListN.{length, getD, set, take, drop, length-append}
-use lib.Seq.{sets, set-comm, drop-cons, take-suc, set-at, append-snoc, length-take-le}
+use lib.Seq.{paste, sets-eq, take-all, sets, set-comm, drop-cons, take-suc, set-at, append-snoc, length-take-le}
 use lib.Dec.{ltb, eqb}
 use borrow.Author.Tests.{ltb-false}
 use Rattle.field.specs.Field.{beAt, bytesOf}
@@ -86,3 +86,16 @@ copy-step h o i p q =
     ∙ sym (append-snoc (take i h) (getD h i 0) (drop (suc i) o))
     ∙ ap (λ (r : List ℕ). r ++ drop (suc i) o) (sym (take-suc h i 0 p))
     ∙ ap (λ (k : ℕ). take k h ++ drop k o) (sym (add-one i))
+
+-- a run of stores after another
+pub sets-append : (l : List ℕ) (i : ℕ) (a b : List ℕ) → sets (sets l i a) (i + length a) b ≡ sets l i (a ++ b)
+sets-append l i [] b = rw add-zero
+sets-append l i (x ∷ xs) b =
+    ap (λ (k : ℕ). sets (sets (set l i x) (suc i) xs) k b) (add-suc i (length xs) ∙ sym (suc-add i (length xs)))
+    ∙ sets-append (set l i x) (suc i) xs b
+
+-- a list pasted whole is a run of stores
+pub paste-sets : (l : List ℕ) (at : ℕ) (b : List ℕ) (n : ℕ) → length b ≡ n → at + n ≤ length l → paste l at b n ≡ sets l at b
+paste-sets l at b n e h =
+    let all : take n b ≡ b = ap (λ (k : ℕ). take k b) (sym e) ∙ take-all (length b) b (omega arith) in
+    rw (all, ← e) (sym (sets-eq b l at (subst (λ (k : ℕ). at + k ≤ length l) (sym e) h)))

@@ -15,6 +15,7 @@ use Rattle.response_header.specs.declared.LoginResponse.{LoginResponse}
 use Rattle.response_header.specs.declared.LogoutResponse.{LogoutResponse}
 use Rattle.response_header.specs.declared.Reject.{Reject}
 use Rattle.response_header.specs.declared.Numbers.{Numbers}
+use Rattle.response_header.specs.declared.Own.{Own}
 use Rattle.response_header.specs.declared.Response.{Response}
 use Rattle.response_header.specs.declared.Response.the-variants as R
 use Rattle.response_header.specs.declared.Judgement.{Judgement}
@@ -128,6 +129,12 @@ ownFields (R.Reject r) = rejectFields r
 -- the 48 bytes; "what isn't named is 0"
 unfoldable pub headerBytes : Response → Numbers → List ℕ
 headerBytes r n = place (ownFields r) (place (numbersFields n) (replicate 48 0))
+
+-- the same 48 bytes from whole numbers: a response's own, and between them the three that all carry
+unfoldable pub ownBytes : Own → Numbers → List ℕ
+ownBytes o n =
+    bytesOf 8 (o .«at_0») ++ (bytesOf 8 (o .«at_8») ++ (bytesOf 8 (o .«at_16»)
+    ++ (bytesOf 4 (n .«stat_sn») ++ (bytesOf 4 (n .«exp_cmd_sn») ++ (bytesOf 4 (n .«max_cmd_sn») ++ (bytesOf 4 (o .«at_36») ++ bytesOf 8 (o .«at_40»)))))))
 
 -- ---- the refusals
 

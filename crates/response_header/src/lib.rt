@@ -68,6 +68,15 @@ pub struct Numbers {
     pub max_cmd_sn: u32,
 }
 
+// A response's own part of its header, in whole numbers by the byte that each starts at. Between byte 23 and byte 36 stand the three numbers.
+pub struct Own {
+    pub at_0: u64,
+    pub at_8: u64,
+    pub at_16: u64,
+    pub at_36: u32,
+    pub at_40: u64,
+}
+
 // The longest data segment that a response may state.
 pub const MAX_DATA: u32 = 8192;
 

@@ -4,123 +4,155 @@ use crate::LoginResponse;
 use crate::LogoutResponse;
 use crate::NopIn;
 use crate::Numbers;
+use crate::Own;
 use crate::Reject;
 use crate::Response;
 use crate::ScsiResponse;
 use crate::TaskManagementResponse;
 use crate::WriteAnswer;
 use field::HEADER_BYTES;
+use field::NONE;
+use field::four;
+use field::low_three;
+use field::pair;
 use field::put;
+use field::six_two;
+use field::two;
 use refusal::Refusal;
 ghost use mathlib.Core.Path.{_≡_};
-ghost use mathlib.Core.List.{_++_};
-ghost use Prim.Native.Nat.{_≤_};
-ghost use lib.ListN.{length, drop};
-ghost use Rattle.response_header.specs.Response.{Outcome, place, weigh, numbersFields, nopInFields, scsiResponseFields, taskManagementResponseFields, loginResponseFields, logoutResponseFields, rejectFields, ownFields, headerBytes, dataLengthIn, fieldsFit, refusalIn, judgementNumber, answered, writing};
+ghost use Prim.Native.Nat.{_+_, _*_, _%_, _≤_};
+ghost use lib.ListN.{length};
+ghost use lib.Seq.{paste};
+ghost use Rattle.response_header.specs.declared.Numbers.{Numbers};
+ghost use Rattle.response_header.specs.declared.Response.the-variants as R;
+ghost use Rattle.response_header.specs.Response.{Outcome, weigh, headerBytes, ownBytes, dataLengthIn, fieldsFit, refusalIn, judgementNumber, answered, writing};
 
 // k where on is set, else 0.
-fn weight(on: bool, k: u64) -> u64
+fn weight(on: bool, k: u8) -> u8
     ensures { λ r. ⌜ (r ≡ weigh on k) × (r ≤ k) ⌝ }
 {
     if on { k } else { 0 }
 }
 
-fn put_numbers(h: &mut [u8; 48], n: Numbers)
-    ensures { λ _. ⌜ now (h .exit) ≡ place (numbersFields n) (now (h .entry)) ⌝ }
+fn nop_in(x: NopIn) -> Own
+    ensures { λ r. ⌜ ((n : Numbers) → headerBytes (R.NopIn x) n ≡ ownBytes r n) ⌝ }
 {
-    put(h, 24, 4, n.stat_sn as u64);
-    put(h, 28, 4, n.exp_cmd_sn as u64);
-    put(h, 32, 4, n.max_cmd_sn as u64);
+    let first = four(0x20, 0x80, 0, 0);
+    let length = low_three(x.data_segment_length);
+    Own {
+        at_0: pair(first, length),
+        at_8: x.lun,
+        at_16: pair(x.initiator_task_tag, x.target_transfer_tag),
+        at_36: 0,
+        at_40: 0,
+    }
 }
 
-fn put_nop_in(h: &mut [u8; 48], r: NopIn)
-    ensures { λ _. ⌜ now (h .exit) ≡ place (nopInFields r) (now (h .entry)) ⌝ }
+fn scsi_response(x: ScsiResponse) -> Own
+    ensures { λ r. ⌜ ((n : Numbers) → headerBytes (R.ScsiResponse x) n ≡ ownBytes r n) ⌝ }
 {
-    put(h, 0, 1, 0x20);
-    put(h, 1, 1, 0x80);
-    put(h, 5, 3, r.data_segment_length as u64);
-    put(h, 8, 8, r.lun);
-    put(h, 16, 4, r.initiator_task_tag as u64);
-    put(h, 20, 4, r.target_transfer_tag as u64);
+    let flags = 0x80 + weight(x.overflow, 0x04) + weight(x.underflow, 0x02);
+    let first = four(0x21, flags, x.response, x.status);
+    let length = low_three(x.data_segment_length);
+    Own {
+        at_0: pair(first, length),
+        at_8: 0,
+        at_16: pair(x.initiator_task_tag, x.snack_tag),
+        at_36: 0,
+        at_40: pair(0, x.residual_count),
+    }
 }
 
-fn put_scsi_response(h: &mut [u8; 48], r: ScsiResponse)
-    ensures { λ _. ⌜ now (h .exit) ≡ place (scsiResponseFields r) (now (h .entry)) ⌝ }
+fn task_management_response(x: TaskManagementResponse) -> Own
+    ensures { λ r. ⌜ ((n : Numbers) → headerBytes (R.TaskManagementResponse x) n ≡ ownBytes r n) ⌝ }
 {
-    put(h, 0, 1, 0x21);
-    put(
-        h,
-        1,
-        1,
-        0x80 + weight(r.overflow, 0x04) + weight(r.underflow, 0x02),
-    );
-    put(h, 2, 1, r.response as u64);
-    put(h, 3, 1, r.status as u64);
-    put(h, 5, 3, r.data_segment_length as u64);
-    put(h, 16, 4, r.initiator_task_tag as u64);
-    put(h, 20, 4, r.snack_tag as u64);
-    put(h, 44, 4, r.residual_count as u64);
+    let first = four(0x22, 0x80, x.response, 0);
+    Own {
+        at_0: pair(first, 0),
+        at_8: 0,
+        at_16: pair(x.initiator_task_tag, 0),
+        at_36: 0,
+        at_40: 0,
+    }
 }
 
-fn put_task_management_response(h: &mut [u8; 48], r: TaskManagementResponse)
-    ensures { λ _. ⌜ now (h .exit) ≡ place (taskManagementResponseFields r) (now (h .entry)) ⌝ }
+// Byte 1 of a Login Response. Of a response that is refused, what is too wide is cut.
+fn login_flags(transit: bool, csg: u8, nsg: u8) -> u8
+    ensures { λ r. ⌜ r ≡ (weigh transit 0x80 + csg * 4 + nsg) % 256 ⌝ }
 {
-    put(h, 0, 1, 0x22);
-    put(h, 1, 1, 0x80);
-    put(h, 2, 1, r.response as u64);
-    put(h, 16, 4, r.initiator_task_tag as u64);
+    let stages = weight(transit, 0x80) as u32 + csg as u32 * 4 + nsg as u32;
+    (stages % 256) as u8
 }
 
-fn put_login_response(h: &mut [u8; 48], r: LoginResponse)
-    ensures { λ _. ⌜ now (h .exit) ≡ place (loginResponseFields r) (now (h .entry)) ⌝ }
+fn login_response(x: LoginResponse) -> Own
+    ensures { λ r. ⌜ ((n : Numbers) → headerBytes (R.LoginResponse x) n ≡ ownBytes r n) ⌝ }
 {
-    put(h, 0, 1, 0x23);
-    put(
-        h,
-        1,
-        1,
-        weight(r.transit, 0x80) + r.csg as u64 * 4 + r.nsg as u64,
-    );
-    put(h, 5, 3, r.data_segment_length as u64);
-    put(h, 8, 6, r.isid);
-    put(h, 14, 2, r.tsih as u64);
-    put(h, 16, 4, r.initiator_task_tag as u64);
-    put(h, 36, 1, r.status_class as u64);
-    put(h, 37, 1, r.status_detail as u64);
+    let flags = login_flags(x.transit, x.csg, x.nsg);
+    let first = four(0x23, flags, 0, 0);
+    let length = low_three(x.data_segment_length);
+    Own {
+        at_0: pair(first, length),
+        at_8: six_two(x.isid, x.tsih),
+        at_16: pair(x.initiator_task_tag, 0),
+        at_36: four(x.status_class, x.status_detail, 0, 0),
+        at_40: 0,
+    }
 }
 
-fn put_logout_response(h: &mut [u8; 48], r: LogoutResponse)
-    ensures { λ _. ⌜ now (h .exit) ≡ place (logoutResponseFields r) (now (h .entry)) ⌝ }
+fn logout_response(x: LogoutResponse) -> Own
+    ensures { λ r. ⌜ ((n : Numbers) → headerBytes (R.LogoutResponse x) n ≡ ownBytes r n) ⌝ }
 {
-    put(h, 0, 1, 0x26);
-    put(h, 1, 1, 0x80);
-    put(h, 2, 1, r.response as u64);
-    put(h, 16, 4, r.initiator_task_tag as u64);
-    put(h, 40, 2, r.time2wait as u64);
-    put(h, 42, 2, r.time2retain as u64);
+    let first = four(0x26, 0x80, x.response, 0);
+    let times = two(x.time2wait, x.time2retain);
+    Own {
+        at_0: pair(first, 0),
+        at_8: 0,
+        at_16: pair(x.initiator_task_tag, 0),
+        at_36: 0,
+        at_40: pair(times, 0),
+    }
 }
 
-fn put_reject(h: &mut [u8; 48], r: Reject)
-    ensures { λ _. ⌜ now (h .exit) ≡ place (rejectFields r) (now (h .entry)) ⌝ }
+fn reject(x: Reject) -> Own
+    ensures { λ r. ⌜ ((n : Numbers) → headerBytes (R.Reject x) n ≡ ownBytes r n) ⌝ }
 {
-    put(h, 0, 1, 0x3f);
-    put(h, 1, 1, 0x80);
-    put(h, 2, 1, r.reason as u64);
-    put(h, 5, 3, 48);
-    put(h, 16, 4, 0xffff_ffff);
+    let first = four(0x3f, 0x80, x.reason, 0);
+    Own {
+        at_0: pair(first, 48),
+        at_8: 0,
+        at_16: pair(NONE, 0),
+        at_36: 0,
+        at_40: 0,
+    }
 }
 
-fn put_own(h: &mut [u8; 48], r: Response)
-    ensures { λ _. ⌜ now (h .exit) ≡ place (ownFields r) (now (h .entry)) ⌝ }
+// The response's own part of its header, in whole numbers. Of a response that is refused, the values that are too wide are cut.
+pub fn own(r: Response) -> Own
+    ensures { λ o. ⌜ ((n : Numbers) → headerBytes r n ≡ ownBytes o n) ⌝ }
 {
     match r {
-        Response::NopIn(x) => put_nop_in(h, x),
-        Response::ScsiResponse(x) => put_scsi_response(h, x),
-        Response::TaskManagementResponse(x) => put_task_management_response(h, x),
-        Response::LoginResponse(x) => put_login_response(h, x),
-        Response::LogoutResponse(x) => put_logout_response(h, x),
-        Response::Reject(x) => put_reject(h, x),
+        Response::NopIn(x) => nop_in(x),
+        Response::ScsiResponse(x) => scsi_response(x),
+        Response::TaskManagementResponse(x) => task_management_response(x),
+        Response::LoginResponse(x) => login_response(x),
+        Response::LogoutResponse(x) => logout_response(x),
+        Response::Reject(x) => reject(x),
     }
+}
+
+// Writes the header into the 48 bytes from at on, in six stores.
+pub fn place(out: &mut [u8], at: usize, o: Own, n: Numbers)
+    requires { ⌜ at + 48 ≤ length (now out) ⌝ }
+    ensures { λ _. ⌜ now (out .exit) ≡ paste (now (out .entry)) at (ownBytes o n) 48 ⌝ }
+{
+    let numbers = pair(n.stat_sn, n.exp_cmd_sn);
+    let last = pair(n.max_cmd_sn, o.at_36);
+    put(out, at, o.at_0);
+    put(out, at + 8, o.at_8);
+    put(out, at + 16, o.at_16);
+    put(out, at + 24, numbers);
+    put(out, at + 32, last);
+    put(out, at + 40, o.at_40);
 }
 
 // The data length that a response states.
@@ -167,26 +199,14 @@ pub fn judge(r: Response, max_data: u32) -> Judgement
     }
 }
 
-// The header of a response with these numbers. Of a response that is refused, the values that are too wide are cut.
+// The header of a response with these numbers.
 pub fn header(r: Response, n: Numbers) -> [u8; 48]
     ensures { λ h. ⌜ h ≡ headerBytes r n ⌝ }
 {
     let mut h = [0u8; 48];
-    put_numbers(&mut h, n);
-    put_own(&mut h, r);
+    let o = own(r);
+    place(&mut h, 0, o, n);
     h
-}
-
-// The header's 48 bytes into the front of out.
-fn copy(out: &mut [u8], h: [u8; 48])
-    requires { ⌜ 48 ≤ length (now out) ⌝ }
-    ensures { λ _. ⌜ now (out .exit) ≡ h ++ drop 48 (now (out .entry)) ⌝ }
-{
-    let mut i = 0;
-    while i < HEADER_BYTES {
-        out[i] = h[i];
-        i += 1;
-    }
 }
 
 // Writes the header into the first 48 bytes of out, or refuses: BUFFER, TOOLONG, FIELD.
@@ -199,8 +219,8 @@ pub fn write(out: &mut [u8], r: Response, n: Numbers, max_data: u32) -> WriteAns
     match judge(r, max_data) {
         Judgement::Refused(f) => WriteAnswer::Refused(f),
         Judgement::Fits => {
-            let h = header(r, n);
-            copy(out, h);
+            let o = own(r);
+            place(out, 0, o, n);
             WriteAnswer::Written
         }
     }

@@ -1,8 +1,9 @@
 use mathlib.Core.Path.{_≡_, refl, sym, ap, _∙_}
-use borrow.Author.Needs.{needs}
+use borrow.Author.Tests.{lt-ltb, le-ltb}
 use Rattle.refusal.proofs.Laws.{number-positive}
-use borrow.Author.Tests.{lt-ltb, le-ltb, le-leb, lt-leb, eq-eqb, ne-eqb, not-true, not-false}
 use Rattle.response_header.specs.Response.{writing}
+use Rattle.response_header.proofs.Laid.{length-own, front}
+use borrow.Author.Needs.{needs}
 use Rattle.response_header.proofs.write.write.Statement.{statement}
 use Rattle.response_header.proofs.write.write.Tie as tie
 
@@ -16,10 +17,13 @@ returns-2 c = rw (le-ltb _ _ (c .before .before .before .before .if1 .left), ←
 
 returns-3 : tie.Need-returns-3
 unfolding writing
-returns-3 c = rw (le-ltb _ _ (c .before .before .before .before .before .before .before .before .if1 .left), ← (c .before .before .before .before .before .before .before .judge .ensures), c .before .before .before .before .before .enum-told .given .1, ← (c .before .before .before .before .header .ensures), ← (c .before .before .copy .ensures))
+returns-3 c =
+    let o = c .before .before .before .before .own in
+    let a = c .before .before .before .before .before .before .before .before .before .before .args in
+    rw (le-ltb _ _ (c .before .before .before .before .before .before .before .before .if1 .left), ← (c .before .before .before .before .before .before .before .judge .ensures), c .before .before .before .before .before .enum-told .given .1, o .ensures (a .n), c .before .before .place .ensures,
+    front (a .out .now) _ (length-own (o .result) (a .n)))
 
 pub write-spec : {M : Type 1} → statement M
 write-spec =
     tie.close (tie.spec
-    returns (λ c κs. search needs) (λ c. search needs) (λ c. search needs) (λ c κs. search needs) (λ c κs. search needs)
-    returns-2 (λ c. search needs) returns-3)
+    returns (λ c κs. search needs) (λ c. search needs) (λ c. search needs) (λ c κs. search needs) (λ c κs. search needs) returns-2 (λ c. search needs) returns-3)

@@ -12,10 +12,12 @@ use Rattle.words.proofs.request.own_words.Tie as tie
 
 scsi-command-requires : tie.Need-scsi-command-requires
 scsi-command-requires c κs =
-    let s = c .before .before .before .before .before .before .before .before .before .args .s .now in
-    (omega arith, omega (arith, be-split s 20 2 2, c .before .before .before .before .before .before .be .ensures .0, c .before .before .before .before .before .be2 .ensures .0),
-    omega (arith, be-split s 32 4 4, c .before .before .before .before .be3 .ensures .0, c .before .before .before .be4 .ensures .0),
-    omega (arith, be-split s 40 4 4, c .before .before .be5 .ensures .0, c .before .be6 .ensures .0))
+    let s = c .before .before .before .before .before .before .before .before .before .args .s .now in (
+      omega arith,
+      omega (arith, be-split s 20 2 2, c .before .before .before .before .before .before .be .ensures .0, c .before .before .before .before .before .be2 .ensures .0),
+      omega (arith, be-split s 32 4 4, c .before .before .before .before .be3 .ensures .0, c .before .before .before .be4 .ensures .0),
+      omega (arith, be-split s 40 4 4, c .before .before .be5 .ensures .0, c .before .be6 .ensures .0),
+    )
 
 returns : tie.Need-returns
 unfolding requestWords requestOf
@@ -49,8 +51,16 @@ returns-6 c =
     let s = c .before .before .before .before .before .before .before .before .before .args .s .now in
     let tag : c .before .before .before .before .before .before .be .result * 65536 + c .before .before .before .before .before .be2 .result ≡ beAt s 20 4 = omega (arith, be-split s 20 2 2, c .before .before .before .before .before .before .be .ensures .0, c .before .before .before .before .before .be2 .ensures .0) in
     let n = c .match .rest in
-    rw (ne-eqb _ _ (n .0 .0 .0 .0 .1), ne-eqb _ _ (n .0 .0 .0 .1), ne-eqb _ _ (n .0 .0 .1), ne-eqb _ _ (n .0 .1), ne-eqb _ _ (n .1),
-    tag, c .before .before .be5 .ensures .0, c .before .be6 .ensures .0)
+    rw (
+      ne-eqb _ _ (n .0 .0 .0 .0 .1),
+      ne-eqb _ _ (n .0 .0 .0 .1),
+      ne-eqb _ _ (n .0 .0 .1),
+      ne-eqb _ _ (n .0 .1),
+      ne-eqb _ _ (n .1),
+      tag,
+      c .before .before .be5 .ensures .0,
+      c .before .be6 .ensures .0,
+    )
 
 pub own-words-spec : {M : Type 1} → statement M
 own-words-spec =

@@ -28,9 +28,19 @@ unfolding pduWords pduOf
 returns c =
     let s = c .before .before .before .before .before .before .before .before .before .before .before .before .before .before .before .args .s .now in
     let lun : (c .before .before .before .before .before .before .before .before .before .before .before .before .be .result * 65536 + c .before .before .before .before .before .before .before .before .before .before .before .be2 .result) * 65536 + c .before .before .before .before .before .before .before .before .before .before .be3 .result ≡ beAt s 8 8 =
-        omega (arith, be-split s 8 6 2, be-split s 8 4 2, c .before .before .before .before .before .before .before .before .before .before .before .before .be .ensures .0, c .before .before .before .before .before .before .before .before .before .before .before .be2 .ensures .0, c .before .before .before .before .before .before .before .before .before .before .be3 .ensures .0) in
-    rw (c .before .before .before .before .before .before .before .before .before .own-words .ensures, c .before .before .flag2 .ensures, c .before .before .before .flag .ensures, c .before .unless .ensures, c .unless2 .ensures, lun,
-    c .before .before .before .before .before .before .before .be5 .ensures .0, c .before .before .before .before .before .before .before .before .be4 .ensures .0, c .before .before .before .before .before .before .be6 .ensures .0, c .before .before .before .before .be7 .ensures .0)
+    omega (arith, be-split s 8 6 2, be-split s 8 4 2, c .before .before .before .before .before .before .before .before .before .before .before .before .be .ensures .0, c .before .before .before .before .before .before .before .before .before .before .before .be2 .ensures .0, c .before .before .before .before .before .before .before .before .before .before .be3 .ensures .0) in
+    rw (
+      c .before .before .before .before .before .before .before .before .before .own-words .ensures,
+      c .before .before .flag2 .ensures,
+      c .before .before .before .flag .ensures,
+      c .before .unless .ensures,
+      c .unless2 .ensures,
+      lun,
+      c .before .before .before .before .before .before .before .be5 .ensures .0,
+      c .before .before .before .before .before .before .before .before .be4 .ensures .0,
+      c .before .before .before .before .before .before .be6 .ensures .0,
+      c .before .before .before .before .be7 .ensures .0,
+    )
 
 pub words-spec : {M : Type 1} → statement M
 words-spec =
