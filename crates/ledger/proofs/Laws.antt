@@ -15,7 +15,7 @@ use Rattle.refusal.specs.Refusal.{number}
 use Rattle.response_header.specs.Response.{maxData, refusalIn, headerBytes}
 use Rattle.refusal.specs.declared.Refusal.{Refusal}
 use Rattle.response_header.specs.declared.Response.{Response}
-use Rattle.field.proofs.Laws.{length-bytes}
+use Rattle.field.proofs.Laws.{length-bytes, sets-append}
 use Rattle.refusal.proofs.Laws.{number-positive}
 use lib.Seq.{paste, sets, getD-set-same, getD-set-other, length-paste, set-append-left, length-sets, take-all, take-at}
 use Rattle.store.specs.Slot.{slotOf}
@@ -210,6 +210,10 @@ unfolding renewed
 renew a x e m l =
     ap (λ (r : List ℕ). sets r 32 (bytesOf 4 m)) (sets-front a x 28 (bytesOf 4 e) (omega (arith, length-bytes 4 e)))
     ∙ sets-front (sets a 28 (bytesOf 4 e)) x 32 (bytesOf 4 m) (omega (arith, length-bytes 4 m, length-sets a 28 (bytesOf 4 e)))
+
+-- two numbers written as one
+pub renew-both : (l : List ℕ) (e m : ℕ) → sets l 28 (bytesOf 4 e ++ bytesOf 4 m) ≡ sets (sets l 28 (bytesOf 4 e)) 32 (bytesOf 4 m)
+renew-both l e m = sym (sets-append l 28 (bytesOf 4 e) (bytesOf 4 m)) ∙ ap (λ (k : ℕ). sets (sets l 28 (bytesOf 4 e)) (28 + k) (bytesOf 4 m)) (length-bytes 4 e)
 
 pub resend-missing : (c : ℕ) (l : Ledger) (hs ts out : List ℕ) (b : LedgerBook) (n k e m : ℕ) → Agrees c l hs ts b → k ≡ place b n → l .held ≤ k
     → _≡_ {A = Showing} (record { answer = nothing; bytes = out }) (showing (statusOf b n) e m out)

@@ -6,6 +6,7 @@ use refusal::Refusal;
 use response_header::Judgement;
 use response_header::MAX_DATA;
 use response_header::Numbers;
+use response_header::Own;
 use response_header::Response;
 use store::HEADER_BYTES;
 ghost use mathlib.Core.Path.{_≡_};
@@ -13,8 +14,7 @@ ghost use mathlib.Core.Bool.{true, false};
 ghost use mathlib.Core.List.{List};
 ghost use Prim.Native.Nat.{ℕ, _+_, _<_, _≤_};
 ghost use lib.ListN.{length};
-ghost use lib.Seq.{sets};
-ghost use Rattle.field.specs.Field.{bytesOf};
+ghost use Rattle.response_header.specs.Response.{ownBytes};
 ghost use Rattle.store.specs.Slot.{headerSize};
 ghost use Rattle.ledger.specs.Book.{LedgerBook, statuses, connections, isStatus, place, runOf};
 ghost use Rattle.ledger.specs.Agree.{Agrees, Opened, Stored, Sends, AcknowledgesAt, runAnswer, Resends};
@@ -27,10 +27,8 @@ const SLOTS_EACH: usize = 32;
 pub const LEDGER_SLOTS: usize = 128;
 
 pub const LEDGER_BYTES: usize = 6144;
-// Where a header has ExpCmdSN and MaxCmdSN.
+// Where a header has ExpCmdSN, and MaxCmdSN after it.
 const EXP_CMD_SN: usize = 28;
-
-const MAX_CMD_SN: usize = 32;
 
 pub struct Ledger {
     pub is_open: bool,
@@ -110,16 +108,16 @@ pub fn send(
                 exp_cmd_sn: exp_cmd_sn,
                 max_cmd_sn: max_cmd_sn,
             };
-            let h = response_header::write::header(r, n);
+            let o = response_header::write::own(r);
             if !is_status(r) {
-                store::put(out, 0, &h);
+                response_header::write::place(out, 0, o, n);
                 return Sent::NotStored(l.next);
             }
             if STATUSES <= l.held {
                 return Sent::Refused(Refusal::Full);
             }
-            store::put(out, 0, &h);
-            let after = keep(l, c, ticket, h, headers, tickets);
+            response_header::write::place(out, 0, o, n);
+            let after = keep(l, c, ticket, o, n, headers, tickets);
             Sent::Stored {
                 stat_sn: l.next,
                 ledger: after,
@@ -147,16 +145,17 @@ fn keep(
     l: Ledger,
     c: usize,
     ticket: u32,
-    header: [u8; HEADER_BYTES],
+    o: Own,
+    n: Numbers,
     headers: &mut [u8; LEDGER_BYTES],
     tickets: &mut [u32; LEDGER_SLOTS],
 ) -> Ledger
     requires { ⌜ (c < connections) × (l .held < statuses) ⌝ }
-    ensures { λ r. ⌜ Stored c l ticket header (now (headers .entry)) (now (tickets .entry)) r (now (headers .exit)) (now (tickets .exit)) ⌝ }
+    ensures { λ r. ⌜ Stored c l ticket (ownBytes o n) (now (headers .entry)) (now (tickets .entry)) r (now (headers .exit)) (now (tickets .exit)) ⌝ }
 {
     let next = l.next;
     let slot = c * SLOTS_EACH + (next % STATUSES) as usize;
-    store::put(headers, slot * HEADER_BYTES, &header);
+    response_header::write::place(headers, slot * HEADER_BYTES, o, n);
     tickets[slot] = ticket;
     let after = std::num::wrapping_add_u32(next, 1);
     Ledger {
@@ -249,21 +248,7 @@ pub fn resend(
     }
     let slot = c * SLOTS_EACH + (stat_sn % STATUSES) as usize;
     store::get(headers, slot * HEADER_BYTES, out);
-    put_number(out, EXP_CMD_SN, exp_cmd_sn);
-    put_number(out, MAX_CMD_SN, max_cmd_sn);
+    let numbers = field::pair(exp_cmd_sn, max_cmd_sn);
+    field::put(out, EXP_CMD_SN, numbers);
     Resent::Status(tickets[slot])
-}
-
-// Writes a number into the four bytes from at on, the highest first.
-fn put_number(h: &mut [u8], at: usize, number: u32)
-    requires { ⌜ at + 4 ≤ length (now h) ⌝ }
-    ensures { λ _. ⌜ now (h .exit) ≡ sets (now (h .entry)) at (bytesOf 4 number) ⌝ }
-{
-    let mut rest = number;
-    let mut i: usize = 4;
-    while 0 < i {
-        i -= 1;
-        h[at + i] = (rest % 256) as u8;
-        rest = rest / 256;
-    }
 }

@@ -5,6 +5,8 @@ use native.Mathlib.Omega.{arith}
 use borrow.Author.Needs.{needs}
 use lib.ListN.{length, length-set}
 use lib.Seq.{length-paste}
+use Rattle.response_header.specs.Response.{ownBytes}
+use Rattle.response_header.proofs.Laid.{length-own}
 use Rattle.ledger.specs.Agree.{Puts}
 use Rattle.ledger.proofs.Laws.{stored-agrees, stored-others}
 use Rattle.ledger.proofs.keep.Statement.{statement}
@@ -13,14 +15,15 @@ use Rattle.ledger.proofs.keep.Tie as tie
 returns : tie.Need-returns
 unfolding Puts
 returns c =
-    let a = c .before .before .before .before .before .args in
-    let size : length (a .t4) ≡ 48 = search needs in
+    let a = c .before .before .before .before .args in
+    let h = ownBytes (a .o) (a .n) in
+    let size = length-own (a .o) (a .n) in
     let near : a .c < 4 = omega arith in
     let low : a .l .held < 32 = omega arith in
-    rw (c .before .before .put .ensures) (record {
-      agrees = λ b g. stored-agrees (a .c) (a .l) _ (a .ticket) (a .t4) (a .headers .now) (a .tickets .now) b g low size refl (c .before .wrapping-add-u32 .ensures) refl;
-      others = λ k m b ne g. stored-others (a .c) k (a .l .next) (a .ticket) (a .t4) (a .headers .now) (a .tickets .now) m b near ne size g;
-      headers-size = λ e. length-paste (a .headers .now) ((a .c * 32 + a .l .next % 32) * 48) (a .t4) 48 (omega arith) (omega arith) ∙ e;
+    rw (c .before .before .place .ensures) (record {
+      agrees = λ b g. stored-agrees (a .c) (a .l) _ (a .ticket) h (a .headers .now) (a .tickets .now) b g low size refl (c .before .wrapping-add-u32 .ensures) refl;
+      others = λ k m b ne g. stored-others (a .c) k (a .l .next) (a .ticket) h (a .headers .now) (a .tickets .now) m b near ne size g;
+      headers-size = λ e. length-paste (a .headers .now) ((a .c * 32 + a .l .next % 32) * 48) h 48 (omega arith) (omega (arith, size)) ∙ e;
       tickets-size = λ e. length-set (a .tickets .now) (a .c * 32 + a .l .next % 32) (a .ticket) ∙ e;
       puts = (refl, refl);
     })
@@ -28,5 +31,5 @@ returns c =
 pub keep-spec : {M : Type 1} → statement M
 keep-spec =
     tie.close (tie.spec
-    (λ c. search needs) (λ c. search needs) (λ c. search needs) (λ c. search needs) (λ c. search needs) (λ c κs. search needs)
+    (λ c. search needs) (λ c. search needs) (λ c. search needs) (λ c. search needs) (λ c κs. search needs)
     (λ c. search needs) (λ c. search needs) (λ c κs. search needs) (λ c. search needs) returns)

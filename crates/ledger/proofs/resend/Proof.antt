@@ -6,7 +6,7 @@ use native.Mathlib.Omega.{arith}
 use lib.ListN.{drop, length, length-drop}
 use lib.Seq.{length-take-le}
 use Rattle.store.specs.Slot.{slotOf}
-use Rattle.ledger.proofs.Laws.{resend-missing, resend-found}
+use Rattle.ledger.proofs.Laws.{renew-both, resend-missing, resend-found}
 use borrow.Author.Needs.{needs}
 use Rattle.ledger.proofs.resend.Statement.{statement}
 use Rattle.ledger.proofs.resend.Tie as tie
@@ -25,15 +25,14 @@ returns c =
 
 returns-2 : tie.Need-returns-2
 returns-2 c =
-    let a = c .before .before .before .before .before .before .before .before .before .before .before .before .before .before .before .before .before .before .args in
-    let p = c .before .before .before .before .before .before .before .before .before .before .before .before .before .before .before .before .place-of in
-    let first = c .before .before .before .before .before .before .before .put-number in
-    let got : c .before .before .before .before .before .before .before .before .before .before .before .get .last .1 .1 .0 ≡ slotOf (a .headers .now) (a .c * 32 + a .stat-sn % 32) ++ drop 48 (a .out .now) = unfold slotOf in c .before .before .before .before .before .before .before .before .before .before .before .get .ensures in
+    let a = c .before .before .before .before .before .before .before .before .before .before .before .before .before .before .before .args in
+    let p = c .before .before .before .before .before .before .before .before .before .before .before .before .before .place-of in
+    let got : c .before .before .before .before .before .before .before .before .get .last .1 .1 .0 ≡ slotOf (a .headers .now) (a .c * 32 + a .stat-sn % 32) ++ drop 48 (a .out .now) = unfold slotOf in c .before .before .before .before .before .before .before .before .get .ensures in
     record {
       meets = λ b g.
-          rw (c .before .before .before .put-number2 .ensures, first .ensures, got)
+          rw (c .before .before .before .put .ensures, c .before .before .before .before .before .pair .ensures, renew-both, got)
           (resend-found (a .c) (a .l) (a .headers .now) (a .tickets .now) (a .out .now) b (a .stat-sn) (p .result) (a .exp-cmd-sn) (a .max-cmd-sn) g
-          (p .ensures (a .c) (a .headers .now) (a .tickets .now) b g) (omega arith) (c .before .before .before .before .before .before .before .before .before .before .before .before .before .before .if1 .left)
+          (p .ensures (a .c) (a .headers .now) (a .tickets .now) b g) (omega arith) (c .before .before .before .before .before .before .before .before .before .before .before .if1 .left)
           (size (a .headers .now) (a .c * 32 + a .stat-sn % 32) (omega (arith, g .headers-size, g .near))));
       stays = tt;
     }

@@ -6,8 +6,10 @@ use native.Mathlib.Omega.{arith}
 use borrow.Author.Needs.{needs}
 use lib.ListN.{length}
 use Rattle.ledger.specs.Book.{isStatus}
-use Rattle.ledger.proofs.Laws.{sending-refused, sending-unstored, sending-full, sending-stored, front, sends-refused, sends-unstored, sends-stored}
-use Rattle.response_header.specs.Response.{judgementNumber}
+use Rattle.ledger.proofs.Laws.{sending-refused, sending-unstored, sending-full, sending-stored, sends-refused, sends-unstored, sends-stored}
+use Rattle.response_header.specs.Response.{judgementNumber, ownBytes}
+use Rattle.response_header.specs.declared.Numbers.{Numbers}
+use Rattle.response_header.proofs.Laid.{length-own, front}
 use Rattle.response_header.specs.declared.Judgement.{Judgement}
 use Rattle.response_header.specs.declared.Judgement.the-variants as J
 use Rattle.refusal.specs.declared.Refusal.the-variants as F
@@ -28,14 +30,16 @@ sure false s e t = let z : _≡_ {A = ℕ} 0 1 = cc in absurd (omega arith)
 
 returns : tie.Need-returns
 returns c =
-    let a = c .before .before .before .before .before .before .before .before .before .before .before .before .args in
-    let made = c .before .before .before .before .before .before .before .header in
-    let size : length (made .result) ≡ 48 = search needs in
-    let ok = fits _ _ (c .before .before .before .before .before .before .before .before .before .before .judge .ensures) (c .before .before .before .before .before .before .before .before .enum-told .given .1) in
-    let no : isStatus (a .r) ≡ false = unset _ _ (c .before .before .before .before .before .before .is-status .ensures) (c .before .before .before .before .before .if1 .taken) in
-    rw (c .before .before .put .ensures ∙ front (a .out .now) (made .result) size)
+    let a = c .before .before .before .before .before .before .before .before .before .before .before .args in
+    let o = c .before .before .before .before .before .before .own in
+    let n : Numbers = record { «stat_sn» = a .l .next; «exp_cmd_sn» = a .exp-cmd-sn; «max_cmd_sn» = a .max-cmd-sn } in
+    let h = ownBytes (o .result) n in
+    let size = length-own (o .result) n in
+    let ok = fits _ _ (c .before .before .before .before .before .before .before .before .before .judge .ensures) (c .before .before .before .before .before .before .before .enum-told .given .1) in
+    let no : isStatus (a .r) ≡ false = unset _ _ (c .before .before .before .before .before .is-status .ensures) (c .before .before .before .before .if1 .taken) in
+    rw (c .before .before .place .ensures ∙ front (a .out .now) h size)
     (sends-unstored (a .c) (a .l) (a .ticket) (a .r) (a .exp-cmd-sn) (a .max-cmd-sn) (a .out .now) (a .headers .now) (a .tickets .now)
-    (made .result) (made .ensures) no (λ b g. sending-unstored b (a .r) ok no))
+    h (sym (o .ensures n)) no (λ b g. sending-unstored b (a .r) ok no))
 
 returns-2 : tie.Need-returns-2
 returns-2 c =
@@ -54,19 +58,21 @@ returns-3 c =
 
 returns-4 : tie.Need-returns-4
 returns-4 c =
-    let a = c .before .before .before .before .before .before .before .before .before .before .before .before .before .before .before .before .before .args in
-    let made = c .before .before .before .before .before .before .before .before .before .before .before .before .header in
-    let size : length (made .result) ≡ 48 = search needs in
-    let ok = fits _ _ (c .before .before .before .before .before .before .before .before .before .before .before .before .before .before .before .judge .ensures) (c .before .before .before .before .before .before .before .before .before .before .before .before .before .enum-told .given .1) in
-    let yes = sure _ _ (c .before .before .before .before .before .before .before .before .before .before .before .is-status .ensures) (c .before .before .before .before .before .before .before .before .before .before .if1 .left) in
-    rw (c .before .before .before .before .before .put2 .ensures ∙ front (a .out .now) (made .result) size)
+    let a = c .before .before .before .before .before .before .before .before .before .before .before .before .before .before .before .before .args in
+    let o = c .before .before .before .before .before .before .before .before .before .before .before .own in
+    let n : Numbers = record { «stat_sn» = a .l .next; «exp_cmd_sn» = a .exp-cmd-sn; «max_cmd_sn» = a .max-cmd-sn } in
+    let h = ownBytes (o .result) n in
+    let size = length-own (o .result) n in
+    let ok = fits _ _ (c .before .before .before .before .before .before .before .before .before .before .before .before .before .before .judge .ensures) (c .before .before .before .before .before .before .before .before .before .before .before .before .enum-told .given .1) in
+    let yes = sure _ _ (c .before .before .before .before .before .before .before .before .before .before .is-status .ensures) (c .before .before .before .before .before .before .before .before .before .if1 .left) in
+    rw (c .before .before .before .before .before .place2 .ensures ∙ front (a .out .now) h size)
     (sends-stored (a .c) (a .l) (a .ticket) (a .r) (a .exp-cmd-sn) (a .max-cmd-sn) (a .out .now) (a .headers .now) (a .tickets .now)
-    (made .result) (made .ensures) _ _ _ yes size (c .keep .ensures)
-    (λ b g. sending-stored b (a .r) ok yes (subst (λ (n : ℕ). n < 32) (g .held) (c .before .before .before .before .before .before .before .before .if2 .left))))
+    h (sym (o .ensures n)) _ _ _ yes size (c .keep .ensures)
+    (λ b g. sending-stored b (a .r) ok yes (subst (λ (k : ℕ). k < 32) (g .held) (c .before .before .before .before .before .before .before .if2 .left))))
 
 pub send-spec : {M : Type 1} → statement M
 send-spec =
     tie.close (tie.spec
-    (λ c κs. search needs) (λ c. search needs) (λ c. search needs) (λ c κs. search needs) (λ c κs. search needs) (λ c. search needs)
-    (λ c κs. search needs) (λ c. search needs) returns returns-2 (λ c. search needs) (λ c κs. search needs) (λ c κs. search needs)
-    returns-3 (λ c. search needs) returns-4)
+    (λ c κs. search needs) (λ c. search needs) (λ c. search needs) (λ c κs. search needs) (λ c κs. search needs)
+    (λ c κs. search needs) (λ c. search needs) returns returns-2 (λ c κs. search needs) (λ c κs. search needs) returns-3
+    (λ c. search needs) returns-4)

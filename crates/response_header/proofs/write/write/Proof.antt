@@ -20,8 +20,14 @@ unfolding writing
 returns-3 c =
     let o = c .before .before .before .before .own in
     let a = c .before .before .before .before .before .before .before .before .before .before .args in
-    rw (le-ltb _ _ (c .before .before .before .before .before .before .before .before .if1 .left), ← (c .before .before .before .before .before .before .before .judge .ensures), c .before .before .before .before .before .enum-told .given .1, o .ensures (a .n), c .before .before .place .ensures,
-    front (a .out .now) _ (length-own (o .result) (a .n)))
+    rw (
+      le-ltb _ _ (c .before .before .before .before .before .before .before .before .if1 .left),
+      ← (c .before .before .before .before .before .before .before .judge .ensures),
+      c .before .before .before .before .before .enum-told .given .1,
+      o .ensures (a .n),
+      c .before .before .place .ensures,
+      front (a .out .now) _ (length-own (o .result) (a .n)),
+    )
 
 pub write-spec : {M : Type 1} → statement M
 write-spec =
