@@ -1,25 +1,19 @@
 // A session's answers as four words.
 use refusal::Refusal;
 use session::WindowNumbers;
-use session::command::OfferAnswer;
-use session::command::TakeAnswer;
-use session::connection::LogoutAnswer;
-use session::connection::OpenAnswer;
-use session::status::AcknowledgeAnswer;
 use session::status::ResendAnswer;
-use session::status::SendAnswer;
 use session::status::SnackAnswer;
 use window::Offered;
 use window::Origin;
 use window::Taken;
 ghost use mathlib.Core.Path.{_≡_};
 ghost use Rattle.session.specs.Book.{Answer};
-ghost use Rattle.session.specs.Agree.{offerAnswer, takeAnswer, openAnswer, logoutAnswer, sendAnswer, acknowledgeAnswer, snackAnswer, resendAnswer};
+ghost use Rattle.session.specs.Agree.{snackAnswer, resendAnswer};
 ghost use Rattle.refusal.specs.Refusal.{number};
 ghost use Rattle.window.specs.Agree.{originOf};
 ghost use Rattle.capi.specs.Answer.{originWord, answerWords, windowWords};
 
-const DONE: u32 = 32;
+pub(crate) const DONE: u32 = 32;
 
 const KEPT: u32 = 33;
 
@@ -29,7 +23,7 @@ const PASSED: u32 = 35;
 
 const BEYOND: u32 = 36;
 
-const IMMEDIATE: u32 = 37;
+pub(crate) const IMMEDIATE: u32 = 37;
 
 const NOTHING: u32 = 38;
 
@@ -43,24 +37,14 @@ pub(crate) fn refused(f: Refusal) -> [u32; 4]
     [refusal::number_of(f) as u32, 0, 0, 0]
 }
 
-fn placed(a: Offered) -> [u32; 4]
+pub(crate) fn placed(a: Offered) -> [u32; 4]
     ensures { λ w. ⌜ w ≡ windowWords (Rattle.window.specs.Agree.offerAnswer a) ⌝ }
 {
     match a {
-        Offered::Kept => [KEPT, 0, 0, 0],
+        Offered::Kept(_) => [KEPT, 0, 0, 0],
         Offered::Duplicate => [DUPLICATE, 0, 0, 0],
         Offered::Passed => [PASSED, 0, 0, 0],
         Offered::Beyond => [BEYOND, 0, 0, 0],
-    }
-}
-
-pub(crate) fn offered(a: OfferAnswer) -> [u32; 4]
-    ensures { λ w. ⌜ w ≡ answerWords (offerAnswer a) ⌝ }
-{
-    match a {
-        OfferAnswer::Refused(f) => refused(f),
-        OfferAnswer::Immediate => [IMMEDIATE, 0, 0, 0],
-        OfferAnswer::Numbered(x) => placed(x),
     }
 }
 
@@ -73,7 +57,7 @@ fn origin_word(o: Origin) -> u32
     }
 }
 
-fn handed_out(a: Taken) -> [u32; 4]
+pub(crate) fn handed_out(a: Taken) -> [u32; 4]
     ensures { λ w. ⌜ w ≡ windowWords (Rattle.window.specs.Agree.takeAnswer a) ⌝ }
 {
     match a {
@@ -84,51 +68,6 @@ fn handed_out(a: Taken) -> [u32; 4]
             ticket,
             origin,
         } => [COMMAND, number, ticket, origin_word(origin)],
-    }
-}
-
-pub(crate) fn taken(a: TakeAnswer) -> [u32; 4]
-    ensures { λ w. ⌜ w ≡ answerWords (takeAnswer a) ⌝ }
-{
-    match a {
-        TakeAnswer::Refused(f) => refused(f),
-        TakeAnswer::Taken(x) => handed_out(x),
-    }
-}
-
-pub(crate) fn opened(a: OpenAnswer) -> [u32; 4]
-    ensures { λ w. ⌜ w ≡ answerWords (openAnswer a) ⌝ }
-{
-    match a {
-        OpenAnswer::Refused(f) => refused(f),
-        OpenAnswer::Opened => [DONE, 0, 0, 0],
-    }
-}
-
-pub(crate) fn logged_out(a: LogoutAnswer) -> [u32; 4]
-    ensures { λ w. ⌜ w ≡ answerWords (logoutAnswer a) ⌝ }
-{
-    match a {
-        LogoutAnswer::Refused(f) => refused(f),
-        LogoutAnswer::LoggedOut { emptied, voided } => [DONE, emptied, voided, 0],
-    }
-}
-
-pub(crate) fn sent(a: SendAnswer) -> [u32; 4]
-    ensures { λ w. ⌜ w ≡ answerWords (sendAnswer a) ⌝ }
-{
-    match a {
-        SendAnswer::Refused(f) => refused(f),
-        SendAnswer::Sent(n) => [DONE, n, 0, 0],
-    }
-}
-
-pub(crate) fn acknowledged(a: AcknowledgeAnswer) -> [u32; 4]
-    ensures { λ w. ⌜ w ≡ answerWords (acknowledgeAnswer a) ⌝ }
-{
-    match a {
-        AcknowledgeAnswer::Refused(f) => refused(f),
-        AcknowledgeAnswer::Acknowledged(n) => [DONE, n, 0, 0],
     }
 }
 

@@ -1,10 +1,22 @@
 // The session's calls for C. A session is its numbers and maps, and the arrays of headers and tickets; each call is lent what it
 // touches, and leaves its answer in four words.
 use crate::answers;
+use crate::answers::DONE;
+use crate::answers::IMMEDIATE;
+use crate::state::close;
+use crate::state::hold;
 use crate::state::load;
 use crate::state::store;
+use crate::state::store_ledger;
+use crate::state::store_window;
 use refusal::Refusal;
 use response_header::Response;
+use session::command::OfferAnswer;
+use session::command::TakeAnswer;
+use session::connection::LogoutAnswer;
+use session::connection::OpenAnswer;
+use session::status::AcknowledgeAnswer;
+use session::status::SendAnswer;
 use words::response::Made;
 use words::response::response;
 ghost use mathlib.Core.List.{List, []};
@@ -30,11 +42,18 @@ pub extern "C" fn drawbevel_core_offer(
     ensures { λ _. ⌜ ((hs ts : List ℕ) → Said (Call.offer conn ticket (now (pdu .entry))) (state (sessionOf (now (n .entry)) (now (m .entry))) (now (headers .entry)) (now (tickets .entry)) hs ts) (now (answer .exit)) [] (state (sessionOf (now (n .exit)) (now (m .exit))) (now (headers .exit)) (now (tickets .exit)) hs ts)) ⌝ }
 {
     let s = load(n, m);
-    let step = session::command::offer(s, conn, ticket, pdu, headers, tickets);
-    let after = step.session;
-    store(n, m, after);
-    let a = step.answer;
-    *answer = answers::offered(a);
+    match session::command::offer(s, conn, ticket, pdu, headers, tickets) {
+        OfferAnswer::Refused(f) => {
+            *answer = answers::refused(f);
+        }
+        OfferAnswer::Immediate => {
+            *answer = [IMMEDIATE, 0, 0, 0];
+        }
+        OfferAnswer::Numbered(x) => {
+            hold(m, conn, x);
+            *answer = answers::placed(x);
+        }
+    }
 }
 
 // Takes the next command, its header into the first 48 bytes of out.
@@ -51,10 +70,17 @@ pub extern "C" fn drawbevel_core_take(
 {
     let s = load(n, m);
     let step = session::command::take(s, headers, tickets, out);
-    let after = step.session;
-    store(n, m, after);
+    let window = step.window;
     let a = step.answer;
-    *answer = answers::taken(a);
+    match a {
+        TakeAnswer::Refused(f) => {
+            *answer = answers::refused(f);
+        }
+        TakeAnswer::Taken(x) => {
+            store_window(n, m, window);
+            *answer = answers::handed_out(x);
+        }
+    }
 }
 
 // Opens a connection that isn't open, with its first StatSN.
@@ -69,11 +95,15 @@ pub extern "C" fn drawbevel_core_open(
     ensures { λ _. ⌜ ((h t hs ts : List ℕ) → Said (Call.opening conn «stat_sn») (state (sessionOf (now (n .entry)) (now (m .entry))) h t hs ts) (now (answer .exit)) [] (state (sessionOf (now (n .exit)) (now (m .exit))) h t hs ts)) ⌝ }
 {
     let s = load(n, m);
-    let step = session::connection::open_connection(s, conn, stat_sn);
-    let after = step.session;
-    store(n, m, after);
-    let a = step.answer;
-    *answer = answers::opened(a);
+    match session::connection::open_connection(s, conn, stat_sn) {
+        OpenAnswer::Refused(f) => {
+            *answer = answers::refused(f);
+        }
+        OpenAnswer::Opened(l) => {
+            store_ledger(n, conn, l);
+            *answer = [DONE, 0, 0, 0];
+        }
+    }
 }
 
 // The effect of a logout on an open connection.
@@ -89,10 +119,22 @@ pub extern "C" fn drawbevel_core_logout(
 {
     let s = load(n, m);
     let step = session::connection::logout(s, conn, reason);
-    let after = step.session;
-    store(n, m, after);
+    let window = step.window;
     let a = step.answer;
-    *answer = answers::logged_out(a);
+    match a {
+        LogoutAnswer::Refused(f) => {
+            *answer = answers::refused(f);
+        }
+        LogoutAnswer::LoggedOut {
+            emptied,
+            voided,
+            closes,
+        } => {
+            store_window(n, m, window);
+            close(n, conn, closes);
+            *answer = [DONE, emptied, voided, 0];
+        }
+    }
 }
 
 // Releases the statuses before an ExpStatSN.
@@ -107,11 +149,15 @@ pub extern "C" fn drawbevel_core_acknowledge(
     ensures { λ _. ⌜ ((h t hs ts : List ℕ) → Said (Call.acknowledge conn «exp_stat_sn») (state (sessionOf (now (n .entry)) (now (m .entry))) h t hs ts) (now (answer .exit)) [] (state (sessionOf (now (n .exit)) (now (m .exit))) h t hs ts)) ⌝ }
 {
     let s = load(n, m);
-    let step = session::status::acknowledge(s, conn, exp_stat_sn);
-    let after = step.session;
-    store(n, m, after);
-    let a = step.answer;
-    *answer = answers::acknowledged(a);
+    match session::status::acknowledge(s, conn, exp_stat_sn) {
+        AcknowledgeAnswer::Refused(f) => {
+            *answer = answers::refused(f);
+        }
+        AcknowledgeAnswer::Acknowledged { count, ledger } => {
+            store_ledger(n, conn, ledger);
+            *answer = [DONE, count, 0, 0];
+        }
+    }
 }
 
 // The run that a status SNACK asks for.
@@ -173,11 +219,18 @@ fn send_known(
     ensures { λ _. ⌜ ((h t : List ℕ) → Said (Call.send conn ticket r (now (out .entry))) (state (sessionOf (now (n .entry)) (now (m .entry))) h t (now (statuses .entry)) (now («status_tickets» .entry))) (now (answer .exit)) (now (out .exit)) (state (sessionOf (now (n .exit)) (now (m .exit))) h t (now (statuses .exit)) (now («status_tickets» .exit)))) ⌝ }
 {
     let s = load(n, m);
-    let step = session::status::send(s, conn, ticket, r, out, statuses, status_tickets);
-    let after = step.session;
-    store(n, m, after);
-    let a = step.answer;
-    *answer = answers::sent(a);
+    match session::status::send(s, conn, ticket, r, out, statuses, status_tickets) {
+        SendAnswer::Refused(f) => {
+            *answer = answers::refused(f);
+        }
+        SendAnswer::Sent(stat_sn) => {
+            *answer = [DONE, stat_sn, 0, 0];
+        }
+        SendAnswer::Stored { stat_sn, ledger } => {
+            store_ledger(n, conn, ledger);
+            *answer = [DONE, stat_sn, 0, 0];
+        }
+    }
 }
 
 // Sends a response, its header into the first 48 bytes of out. Words that are no response are FIELD, and change nothing.

@@ -1,8 +1,15 @@
-// A session between calls: its numbers and its bit maps as two arrays, which the caller keeps.
+// A session between calls: its numbers and its bit maps as two arrays, which the caller keeps. A call writes what is new.
 use ledger::Ledger;
 use session::Session;
+use session::connection::Closes;
+use window::Offered;
 use window::Window;
 ghost use mathlib.Core.Path.{_≡_};
+ghost use mathlib.Core.List.{List};
+ghost use Prim.Native.Nat.{ℕ};
+ghost use lib.ListN.{length};
+ghost use Rattle.window.specs.Agree.{afterOffer};
+ghost use Rattle.session.specs.Agree.{withLedger, inWindow, withConns, closing};
 ghost use Rattle.capi.specs.State.{ledgerAt, sessionOf};
 ghost use Rattle.words.specs.Words.{flagWord};
 
@@ -74,4 +81,67 @@ pub(crate) fn store(n: &mut [u32; 15], m: &mut [u64; 6], s: Session)
         c3.next,
         c3.held,
     ];
+}
+
+// Keeps a window.
+pub(crate) fn store_window(n: &mut [u32], m: &mut [u64; 6], w: Window)
+    requires { ⌜ length (now n) ≡ 15 ⌝ }
+    ensures { λ _. ⌜ sessionOf (now (n .exit)) (now (m .exit)) ≡ inWindow (sessionOf (now (n .entry)) (now (m .entry))) w ⌝ }
+{
+    let own = w.origins;
+    n[1] = w.next;
+    n[2] = w.handed;
+    *m = [w.held, w.voided, own[0], own[1], own[2], own[3]];
+}
+
+// Enters the place of what is kept in the maps.
+pub(crate) fn hold(m: &mut [u64], conn: u32, x: Offered)
+    requires { ⌜ length (now m) ≡ 6 ⌝ }
+    ensures { λ _. ⌜ ((n : List ℕ) → sessionOf n (now (m .exit)) ≡ inWindow (sessionOf n (now (m .entry))) (afterOffer (sessionOf n (now (m .entry)) .window) conn x)) ⌝ }
+{
+    match x {
+        Offered::Kept(place) => {
+            m[0] = m[0] | place;
+            if conn < 4 {
+                let own = 2 + conn as usize;
+                m[own] = m[own] | place;
+            }
+        }
+        Offered::Duplicate => {}
+        Offered::Passed => {}
+        Offered::Beyond => {}
+    }
+}
+
+// Keeps the ledger of a connection.
+pub(crate) fn store_ledger(n: &mut [u32], conn: u32, l: Ledger)
+    requires { ⌜ length (now n) ≡ 15 ⌝ }
+    ensures { λ _. ⌜ ((m : List ℕ) → sessionOf (now (n .exit)) m ≡ withLedger (sessionOf (now (n .entry)) m) conn l) ⌝ }
+{
+    if conn < 4 {
+        let at = 3 + 3 * (conn as usize);
+        n[at] = open_word(l);
+        n[at + 1] = l.next;
+        n[at + 2] = l.held;
+    }
+}
+
+// Closes a connection, or all of them.
+pub(crate) fn close(n: &mut [u32], conn: u32, k: Closes)
+    requires { ⌜ length (now n) ≡ 15 ⌝ }
+    ensures { λ _. ⌜ ((m : List ℕ) → sessionOf (now (n .exit)) m ≡ withConns (sessionOf (now (n .entry)) m) (closing k conn (sessionOf (now (n .entry)) m .conns))) ⌝ }
+{
+    match k {
+        Closes::Session => {
+            n[3] = 0;
+            n[6] = 0;
+            n[9] = 0;
+            n[12] = 0;
+        }
+        Closes::Connection => {
+            if conn < 4 {
+                n[3 + 3 * (conn as usize)] = 0;
+            }
+        }
+    }
 }

@@ -1,4 +1,8 @@
 // Each call of a session, with a line that says what was called and what came.
+use crate::after::closed;
+use crate::after::placed;
+use crate::after::with_ledger;
+use crate::after::with_window;
 use crate::pdu::status_snack;
 use crate::pdu::write_command;
 use crate::text::put;
@@ -31,7 +35,7 @@ fn put_refusal(f: Refusal) {
 
 fn put_offered(o: Offered) {
     match o {
-        Offered::Kept => put(b"kept\n"),
+        Offered::Kept(_) => put(b"kept\n"),
         Offered::Duplicate => put(b"duplicate\n"),
         Offered::Passed => put(b"passed\n"),
         Offered::Beyond => put(b"beyond\n"),
@@ -54,15 +58,20 @@ pub(crate) fn offer(
     put_count(ticket);
     put(b": ");
     let pdu = write_command(number, ticket);
-    let step = session::command::offer(s, conn, ticket, &pdu, headers, tickets);
-    let answer = step.answer;
-    match answer {
-        OfferAnswer::Refused(f) => put_refusal(f),
-        OfferAnswer::Immediate => put(b"immediate\n"),
-        OfferAnswer::Numbered(o) => put_offered(o),
+    match session::command::offer(s, conn, ticket, &pdu, headers, tickets) {
+        OfferAnswer::Refused(f) => {
+            put_refusal(f);
+            s
+        }
+        OfferAnswer::Immediate => {
+            put(b"immediate\n");
+            s
+        }
+        OfferAnswer::Numbered(o) => {
+            put_offered(o);
+            placed(s, conn, o)
+        }
     }
-    let after = step.session;
-    after
 }
 
 fn put_taken(t: Taken) {
@@ -103,22 +112,24 @@ pub(crate) fn take(s: Session, headers: &[u8; 3072], tickets: &[u32; 64]) -> Ses
         TakeAnswer::Refused(f) => put_refusal(f),
         TakeAnswer::Taken(t) => put_taken(t),
     }
-    let after = step.session;
-    after
+    let w = step.window;
+    with_window(s, w)
 }
 
 pub(crate) fn open(s: Session, conn: u32, stat_sn: u32) -> Session {
     put(b"open ");
     put_count(conn);
     put(b": ");
-    let step = session::connection::open_connection(s, conn, stat_sn);
-    let answer = step.answer;
-    match answer {
-        OpenAnswer::Refused(f) => put_refusal(f),
-        OpenAnswer::Opened => put(b"opened\n"),
+    match session::connection::open_connection(s, conn, stat_sn) {
+        OpenAnswer::Refused(f) => {
+            put_refusal(f);
+            s
+        }
+        OpenAnswer::Opened(l) => {
+            put(b"opened\n");
+            with_ledger(s, conn, l)
+        }
     }
-    let after = step.session;
-    after
 }
 
 pub(crate) fn logout(s: Session, conn: u32, reason: u8) -> Session {
@@ -130,17 +141,25 @@ pub(crate) fn logout(s: Session, conn: u32, reason: u8) -> Session {
     let step = session::connection::logout(s, conn, reason);
     let answer = step.answer;
     match answer {
-        LogoutAnswer::Refused(f) => put_refusal(f),
-        LogoutAnswer::LoggedOut { emptied, voided } => {
+        LogoutAnswer::Refused(f) => {
+            put_refusal(f);
+            s
+        }
+        LogoutAnswer::LoggedOut {
+            emptied,
+            voided,
+            closes,
+        } => {
             put(b"emptied ");
             put_count(emptied);
             put(b" voided ");
             put_count(voided);
             put(b"\n");
+            let w = step.window;
+            let after = with_window(s, w);
+            closed(after, conn, closes)
         }
     }
-    let after = step.session;
-    after
 }
 
 pub(crate) fn numbers(s: Session) {
@@ -149,6 +168,12 @@ pub(crate) fn numbers(s: Session) {
     put_number(n.exp_cmd_sn);
     put(b" maxcmdsn ");
     put_number(n.max_cmd_sn);
+    put(b"\n");
+}
+
+fn put_sent(stat_sn: u32) {
+    put(b"sent ");
+    put_number(stat_sn);
     put(b"\n");
 }
 
@@ -165,18 +190,20 @@ pub(crate) fn send(
     put(b": ");
     let mut out = [0u8; 48];
     let r = Response::Reject(Reject { reason: 4 });
-    let step = session::status::send(s, conn, ticket, r, &mut out, statuses, status_tickets);
-    let answer = step.answer;
-    match answer {
-        SendAnswer::Refused(f) => put_refusal(f),
+    match session::status::send(s, conn, ticket, r, &mut out, statuses, status_tickets) {
+        SendAnswer::Refused(f) => {
+            put_refusal(f);
+            s
+        }
         SendAnswer::Sent(n) => {
-            put(b"sent ");
-            put_number(n);
-            put(b"\n");
+            put_sent(n);
+            s
+        }
+        SendAnswer::Stored { stat_sn, ledger } => {
+            put_sent(stat_sn);
+            with_ledger(s, conn, ledger)
         }
     }
-    let after = step.session;
-    after
 }
 
 pub(crate) fn acknowledge(s: Session, conn: u32, exp_stat_sn: u32) -> Session {
@@ -185,18 +212,18 @@ pub(crate) fn acknowledge(s: Session, conn: u32, exp_stat_sn: u32) -> Session {
     put(b" ");
     put_number(exp_stat_sn);
     put(b": ");
-    let step = session::status::acknowledge(s, conn, exp_stat_sn);
-    let answer = step.answer;
-    match answer {
-        AcknowledgeAnswer::Refused(f) => put_refusal(f),
-        AcknowledgeAnswer::Acknowledged(n) => {
+    match session::status::acknowledge(s, conn, exp_stat_sn) {
+        AcknowledgeAnswer::Refused(f) => {
+            put_refusal(f);
+            s
+        }
+        AcknowledgeAnswer::Acknowledged { count, ledger } => {
             put(b"acknowledged ");
-            put_count(n);
+            put_count(count);
             put(b"\n");
+            with_ledger(s, conn, ledger)
         }
     }
-    let after = step.session;
-    after
 }
 
 pub(crate) fn snack(s: Session, conn: u32, beg_run: u32, run_length: u32) {

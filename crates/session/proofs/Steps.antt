@@ -9,7 +9,7 @@ use native.Mathlib.Decide.{ℕ-discrete}
 use borrow.Author.Tests.{lt-ltb, le-ltb, le-leb, lt-leb, eq-eqb, ne-eqb}
 use lib.Dec.{ltb}
 use lib.ListN as ListN
-use lib.ListN.{length, getD, set, drop, replicate, length-set}
+use lib.ListN.{length, getD, set, drop, replicate, length-set, length-map, List·getD-map}
 use lib.Seq.{getD-set-same, getD-set-other}
 use Rattle.field.specs.Field.{pick}
 use Rattle.request_header.specs.Request.{limits, readPdu}
@@ -23,8 +23,10 @@ use Rattle.ledger.specs.Book as L
 use Rattle.ledger.specs.Agree as LA
 use Rattle.ledger.specs.declared.Ledger.{Ledger}
 use Rattle.session.specs.declared.Session.{Session}
+use Rattle.session.specs.declared.connection.Closes.{Closes}
+use Rattle.session.specs.declared.connection.Closes.the-variants as C
 use Rattle.session.specs.Book.{Offered, denied, atOnce, numbered, Connection, closed, live, Book, Call, offer, take, logout, opening, send, acknowledge, snack, resend, Answer, refused, immediate, opened, window, sent, acknowledged, run, resent, Step, step, connOf, withWindow, withConn, byWindow, onOpen, onConnection, lending, offerBy, offeredAs, connsLeft, loggedOut, logoutBy, openAt, sendAs, sendBy, acknowledgeBy, runStep, Asked, asked, deniedRun, from, snackBy, shown, resendBy, isOffered, cmdSN, cmdSNOf, bookStep}
-use Rattle.session.specs.Agree.{State, state, noLedger, ledgerOf, ConnAgrees, Agrees, MeetsAt, lent, Changes, WindowStays, Stays, Did, IsOpen, withLedger, LeavesConns}
+use Rattle.session.specs.Agree.{State, state, noLedger, ledgerOf, ConnAgrees, Agrees, MeetsAt, lent, Changes, WindowStays, Stays, Did, IsOpen, withLedger, Closing, shut, closing, LeavesConns}
 
 -- ---- from the book's step, known whole
 
@@ -203,6 +205,22 @@ pub all-closed : (n j : ℕ) → getD (replicate n closed) j closed ≡ closed
 all-closed zero j = refl
 all-closed (suc n) zero = refl
 all-closed (suc n) (suc j) = all-closed n j
+
+-- what the code closes is what the logout leaves closed
+pub closing-leaves : (k : List Ledger) (c r : ℕ) (x : Closes) → c < 4 → length k ≡ 4 → Closing r x → LeavesConns k c r (closing x c k)
+unfolding closing
+closing-leaves k c r C.Session l n z = record {
+  size = λ e. length-map k shut ∙ e;
+  every = λ y j lj. ap (λ (m : Ledger). m .«is_open») (List·getD-map shut k j noLedger);
+  own = ap (λ (m : Ledger). m .«is_open») (List·getD-map shut k c noLedger);
+  others = λ y. absurd (y z);
+}
+closing-leaves k c r C.Connection l n z = record {
+  size = λ e. length-set k c (shut (getD k c noLedger)) ∙ e;
+  every = λ y. absurd (z y);
+  own = ap (λ (m : Ledger). m .«is_open») (getD-set-same k c (shut (getD k c noLedger)) noLedger (omega arith));
+  others = λ y j q. getD-set-other k c j (shut (getD k c noLedger)) noLedger q;
+}
 
 pub left-agrees : (s : Session) (h t hs ts : List ℕ) (b : Book) (c r : ℕ) (k : List Ledger) (w : Window) (v : W.Book) → Agrees (state s h t hs ts) b → c < 4
     → LeavesConns (s .conns) c r k → WA.Agrees (WA.state w h t) v

@@ -8,7 +8,7 @@ use contract.Lifetimes
 use borrow.Fn.Kinds as K
 use denote.Triple.Clauses.{AtExit}
 use Rattle.session.specs.Book.{Call, offer, take, logout, opening, send, acknowledge, snack, resend, windowNumbers, Answer, numbers, freshBook}
-use Rattle.session.specs.Agree.{State, Did, state, offerAnswer, takeAnswer, logoutAnswer, openAnswer, sendAnswer, acknowledgeAnswer, snackAnswer, resendAnswer}
+use Rattle.session.specs.Agree.{State, Did, state, offerAnswer, afterOffer, takeAnswer, afterTake, logoutAnswer, afterLogout, openAnswer, afterOpen, sendAnswer, afterSend, acknowledgeAnswer, afterAcknowledge, snackAnswer, resendAnswer}
 use Rattle.session.specs.History.{Event, event, Ran, Booked, history, callsOf}
 use Rattle.session.specs.Demand.{Demand3}
 use Rattle.session.proofs.Sentences.{demand3-booked}
@@ -39,24 +39,24 @@ pub data Called : Call → State → Answer → List ℕ → State → Type 0 wh
   by-offer : (κs : Lifetimes.Lfts 3) (a : K.Dens {n = 3} κs offer-k.ps) (r : K.resT offer-k.r κs .Denot) (s : AtExit (K.endedOf 3 offer-k.ps offer-k.r) κs)
       → offer-r.Learnt κs a r s → (hs ts : List ℕ)
       → Called (offer (a .1 .0) (a .1 .1 .0) (now (a .1 .1 .1 .0))) (state (a .0) (now (a .1 .1 .1 .1 .0)) (now (a .1 .1 .1 .1 .1 .0)) hs ts)
-      (offerAnswer (r .answer)) [] (state (r .session) (now (s .1 .1 .1 .1 .0)) (now (s .1 .1 .1 .1 .1 .0)) hs ts)
+      (offerAnswer r) [] (state (afterOffer (a .0) (a .1 .0) r) (now (s .1 .1 .1 .1 .0)) (now (s .1 .1 .1 .1 .1 .0)) hs ts)
   by-take : (κs : Lifetimes.Lfts 3) (a : K.Dens {n = 3} κs take-k.ps) (r : K.resT take-k.r κs .Denot) (s : AtExit (K.endedOf 3 take-k.ps take-k.r) κs)
       → take-r.Learnt κs a r s → (hs ts : List ℕ)
       → Called (take (now (a .1 .1 .1 .0))) (state (a .0) (now (a .1 .0)) (now (a .1 .1 .0)) hs ts)
-      (takeAnswer (r .answer)) (now (s .1 .1 .1 .0)) (state (r .session) (now (a .1 .0)) (now (a .1 .1 .0)) hs ts)
+      (takeAnswer (r .answer)) (now (s .1 .1 .1 .0)) (state (afterTake (a .0) (r .answer) (r .window)) (now (a .1 .0)) (now (a .1 .1 .0)) hs ts)
   by-logout : (κs : Lifetimes.Lfts 0) (a : K.Dens {n = 0} κs logout-k.ps) (r : K.resT logout-k.r κs .Denot) (s : AtExit (K.endedOf 0 logout-k.ps logout-k.r) κs)
       → logout-r.Learnt κs a r s → (h t hs ts : List ℕ)
-      → Called (logout (a .1 .0) (a .1 .1 .0)) (state (a .0) h t hs ts) (logoutAnswer (r .answer)) [] (state (r .session) h t hs ts)
+      → Called (logout (a .1 .0) (a .1 .1 .0)) (state (a .0) h t hs ts) (logoutAnswer (r .answer)) [] (state (afterLogout (a .0) (a .1 .0) (r .answer) (r .window)) h t hs ts)
   by-open : (κs : Lifetimes.Lfts 0) (a : K.Dens {n = 0} κs open-k.ps) (r : K.resT open-k.r κs .Denot) (s : AtExit (K.endedOf 0 open-k.ps open-k.r) κs)
       → open-r.Learnt κs a r s → (h t hs ts : List ℕ)
-      → Called (opening (a .1 .0) (a .1 .1 .0)) (state (a .0) h t hs ts) (openAnswer (r .answer)) [] (state (r .session) h t hs ts)
+      → Called (opening (a .1 .0) (a .1 .1 .0)) (state (a .0) h t hs ts) (openAnswer r) [] (state (afterOpen (a .0) (a .1 .0) r) h t hs ts)
   by-send : (κs : Lifetimes.Lfts 3) (a : K.Dens {n = 3} κs send-k.ps) (r : K.resT send-k.r κs .Denot) (s : AtExit (K.endedOf 3 send-k.ps send-k.r) κs)
       → send-r.Learnt κs a r s → (h t : List ℕ)
       → Called (send (a .1 .0) (a .1 .1 .0) (a .1 .1 .1 .0) (now (a .1 .1 .1 .1 .0))) (state (a .0) h t (now (a .1 .1 .1 .1 .1 .0)) (now (a .1 .1 .1 .1 .1 .1 .0)))
-      (sendAnswer (r .answer)) (now (s .1 .1 .1 .1 .0)) (state (r .session) h t (now (s .1 .1 .1 .1 .1 .0)) (now (s .1 .1 .1 .1 .1 .1 .0)))
+      (sendAnswer r) (now (s .1 .1 .1 .1 .0)) (state (afterSend (a .0) (a .1 .0) r) h t (now (s .1 .1 .1 .1 .1 .0)) (now (s .1 .1 .1 .1 .1 .1 .0)))
   by-acknowledge : (κs : Lifetimes.Lfts 0) (a : K.Dens {n = 0} κs acknowledge-k.ps) (r : K.resT acknowledge-k.r κs .Denot) (s : AtExit (K.endedOf 0 acknowledge-k.ps acknowledge-k.r) κs)
       → acknowledge-r.Learnt κs a r s → (h t hs ts : List ℕ)
-      → Called (acknowledge (a .1 .0) (a .1 .1 .0)) (state (a .0) h t hs ts) (acknowledgeAnswer (r .answer)) [] (state (r .session) h t hs ts)
+      → Called (acknowledge (a .1 .0) (a .1 .1 .0)) (state (a .0) h t hs ts) (acknowledgeAnswer r) [] (state (afterAcknowledge (a .0) (a .1 .0) r) h t hs ts)
   by-snack : (κs : Lifetimes.Lfts 1) (a : K.Dens {n = 1} κs snack-k.ps) (r : K.resT snack-k.r κs .Denot) (s : AtExit (K.endedOf 1 snack-k.ps snack-k.r) κs)
       → snack-r.Learnt κs a r s → (h t hs ts : List ℕ)
       → Called (snack (a .1 .0) (now (a .1 .1 .0))) (state (a .0) h t hs ts) (snackAnswer r) [] (state (a .0) h t hs ts)

@@ -3,7 +3,7 @@
 use Prim.Native.Nat.{ℕ, _*_, _<_, _≤_}
 use mathlib.Core.Path.{_≡_}
 use mathlib.Core.Bool.{Bool, true, false}
-use mathlib.Core.List.{List, []}
+use mathlib.Core.List.{List, [], map}
 use lib.ListN.{length, getD, set, replicate}
 use lib.ListN as ListN
 use Rattle.ledger.specs.Book.{isStatus}
@@ -13,11 +13,14 @@ use Rattle.window.specs.Agree as WA
 use Rattle.window.specs.Book as W
 use Rattle.ledger.specs.Agree as LA
 use Rattle.ledger.specs.declared.Ledger.{Ledger}
+use Rattle.window.specs.declared.Window.{Window}
 use Rattle.session.specs.Book.{connections, Connection, closed, live, Book, freshBook, Call, offer, take, logout, opening, send, acknowledge, snack, resend, windowNumbers, Answer, refused, immediate, opened, window, sent, acknowledged, run, resent, numbers, cmdSN, bookStep, Offered, denied, atOnce, numbered, Asked, deniedRun, from}
 use Rattle.session.specs.declared.Session.{Session}
 use Rattle.session.specs.declared.FreshSession.{FreshSession}
 use Rattle.session.specs.declared.connection.Reached.{Reached}
 use Rattle.session.specs.declared.connection.Reached.the-variants as R
+use Rattle.session.specs.declared.connection.Closes.{Closes}
+use Rattle.session.specs.declared.connection.Closes.the-variants as C
 use Rattle.session.specs.declared.connection.OpenAnswer.{OpenAnswer}
 use Rattle.session.specs.declared.connection.OpenAnswer.the-variants as OpenA
 use Rattle.session.specs.declared.connection.LogoutAnswer.{LogoutAnswer}
@@ -52,19 +55,20 @@ takeAnswer (TakeA.Taken a) = window (WA.takeAnswer a)
 
 abbrev pub openAnswer : OpenAnswer → Answer
 openAnswer (OpenA.Refused f) = refused (number f)
-openAnswer OpenA.Opened = opened
+openAnswer (OpenA.Opened l) = opened
 
 abbrev pub logoutAnswer : LogoutAnswer → Answer
 logoutAnswer (LogoutA.Refused f) = refused (number f)
-logoutAnswer (LogoutA.LoggedOut e v) = window (W.loggedOut e v)
+logoutAnswer (LogoutA.LoggedOut e v k) = window (W.loggedOut e v)
 
 abbrev pub sendAnswer : SendAnswer → Answer
 sendAnswer (SendA.Refused f) = refused (number f)
 sendAnswer (SendA.Sent n) = sent n
+sendAnswer (SendA.Stored n l) = sent n
 
 abbrev pub acknowledgeAnswer : AcknowledgeAnswer → Answer
 acknowledgeAnswer (AcknowledgeA.Refused f) = refused (number f)
-acknowledgeAnswer (AcknowledgeA.Acknowledged n) = acknowledged n
+acknowledgeAnswer (AcknowledgeA.Acknowledged n l) = acknowledged n
 
 abbrev pub snackAnswer : SnackAnswer → Answer
 snackAnswer (SnackA.Refused f) = refused (number f)
@@ -124,6 +128,51 @@ pub record IsFresh (first statSN level : ℕ) (r : FreshSession) : Type 0 where
   pub zero-tickets : r .tickets ≡ replicate W.places 0
   pub zero-statuses : r .statuses ≡ replicate (LA.slots * headerSize) 0
   pub zero-status-tickets : r .«status_tickets» ≡ replicate LA.slots 0
+
+-- ---- the session after an answer: what the answer carries is new, the rest stays
+
+unfoldable pub withLedger : Session → ℕ → Ledger → Session
+withLedger s c l = record { level = s .level; window = s .window; conns = set (s .conns) c l }
+
+abbrev pub inWindow : Session → Window → Session
+inWindow s w = record { level = s .level; window = w; conns = s .conns }
+
+abbrev pub withConns : Session → List Ledger → Session
+withConns s k = record { level = s .level; window = s .window; conns = k }
+
+-- A ledger whose connection is closed.
+abbrev pub shut : Ledger → Ledger
+shut l = record { «is_open» = false; next = l .next; held = l .held }
+
+unfoldable pub closing : Closes → ℕ → List Ledger → List Ledger
+closing C.Session c k = map shut k
+closing C.Connection c k = set k c (shut (getD k c noLedger))
+
+abbrev pub afterOffer : Session → ℕ → OfferAnswer → Session
+afterOffer s c (OfferA.Refused f) = s
+afterOffer s c OfferA.Immediate = s
+afterOffer s c (OfferA.Numbered a) = inWindow s (WA.afterOffer (s .window) c a)
+
+abbrev pub afterTake : Session → TakeAnswer → Window → Session
+afterTake s (TakeA.Refused f) w = s
+afterTake s (TakeA.Taken a) w = inWindow s w
+
+abbrev pub afterOpen : Session → ℕ → OpenAnswer → Session
+afterOpen s c (OpenA.Refused f) = s
+afterOpen s c (OpenA.Opened l) = withLedger s c l
+
+abbrev pub afterLogout : Session → ℕ → LogoutAnswer → Window → Session
+afterLogout s c (LogoutA.Refused f) w = s
+afterLogout s c (LogoutA.LoggedOut e v k) w = withConns (inWindow s w) (closing k c (s .conns))
+
+abbrev pub afterSend : Session → ℕ → SendAnswer → Session
+afterSend s c (SendA.Refused f) = s
+afterSend s c (SendA.Sent n) = s
+afterSend s c (SendA.Stored n l) = withLedger s c l
+
+abbrev pub afterAcknowledge : Session → ℕ → AcknowledgeAnswer → Session
+afterAcknowledge s c (AcknowledgeA.Refused f) = s
+afterAcknowledge s c (AcknowledgeA.Acknowledged n l) = withLedger s c l
 
 -- ---- what a call does
 
@@ -200,13 +249,21 @@ pub record IsOpen (s : Session) (c : ℕ) (l : Ledger) : Type 0 where
   pub ledger : l ≡ ledgerOf s c
   pub is-open : l .«is_open» ≡ true
 
+-- The connection of a ledger.
+abbrev pub ReachesAt : Ledger → Reached → Type 0
+ReachesAt l R.NoConn = ⊥
+ReachesAt l R.Closed = l .«is_open» ≡ false
+ReachesAt l (R.Open k) = (k ≡ l) × (l .«is_open» ≡ true)
+
 abbrev pub Reaches : Session → ℕ → Reached → Type 0
 Reaches s c R.NoConn = connections ≤ c
 Reaches s c R.Closed = (c < connections) × (ledgerOf s c .«is_open» ≡ false)
 Reaches s c (R.Open l) = IsOpen s c l
 
-unfoldable pub withLedger : Session → ℕ → Ledger → Session
-withLedger s c l = record { level = s .level; window = s .window; conns = set (s .conns) c l }
+-- What a logout with reason r closes.
+abbrev pub Closing : ℕ → Closes → Type 0
+Closing r C.Session = r ≡ 0
+Closing r C.Connection = r ≡ 0 → ⊥
 
 -- The connections that a logout leaves: none open after reason 0, else all but c as they were.
 pub record LeavesConns (k : List Ledger) (c r : ℕ) (k' : List Ledger) : Type 0 where

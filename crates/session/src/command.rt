@@ -11,6 +11,7 @@ use store::HEADER_BYTES;
 use window::Taken;
 use window::WINDOW_BYTES;
 use window::WINDOW_SLOTS;
+use window::Window;
 ghost use mathlib.Core.Path.{_≡_};
 ghost use mathlib.Core.List.{List, []};
 ghost use mathlib.Core.Bool.{true, false};
@@ -19,7 +20,7 @@ ghost use lib.ListN.{length};
 ghost use lib.Dec.{eqb};
 ghost use Rattle.request_header.specs.Request.{limits, readPdu, got, pduOf, requestOf, opcodeOf};
 ghost use Rattle.session.specs.Book.{Call, isOffered, offeredAs};
-ghost use Rattle.session.specs.Agree.{Did, state, offeredOf, offerAnswer, takeAnswer};
+ghost use Rattle.session.specs.Agree.{Did, state, offeredOf, offerAnswer, afterOffer, takeAnswer, afterTake};
 
 // What an offered PDU is.
 pub enum Offered {
@@ -34,19 +35,15 @@ pub enum OfferAnswer {
     Numbered(window::Offered),
 }
 
-pub struct OfferStep {
-    pub answer: OfferAnswer,
-    pub session: Session,
-}
-
 pub enum TakeAnswer {
     Refused(Refusal),
     Taken(Taken),
 }
 
+// With the window after it; of a refusal it is as it was.
 pub struct TakeStep {
     pub answer: TakeAnswer,
-    pub session: Session,
+    pub window: Window,
 }
 
 // Whether the opcode is that of a request that is offered.
@@ -99,44 +96,21 @@ pub fn offer(
     pdu: &[u8],
     headers: &mut [u8; WINDOW_BYTES],
     tickets: &mut [u32; WINDOW_SLOTS],
-) -> OfferStep
+) -> OfferAnswer
     ensures { λ r. ⌜ ((hs ts : List ℕ)
         → Did (Call.offer conn ticket (now (pdu .entry)))
-        (state s (now (headers .entry)) (now (tickets .entry)) hs ts) (offerAnswer (r .answer)) []
-        (state (r .session) (now (headers .exit)) (now (tickets .exit)) hs ts)) ⌝ }
+        (state s (now (headers .entry)) (now (tickets .entry)) hs ts) (offerAnswer r) []
+        (state (afterOffer s conn r) (now (headers .exit)) (now (tickets .exit)) hs ts)) ⌝ }
 {
     match reach(s, conn) {
-        Reached::NoConn => OfferStep {
-            answer: OfferAnswer::Refused(Refusal::NoConn),
-            session: s,
-        },
-        Reached::Closed => OfferStep {
-            answer: OfferAnswer::Refused(Refusal::Closed),
-            session: s,
-        },
+        Reached::NoConn => OfferAnswer::Refused(Refusal::NoConn),
+        Reached::Closed => OfferAnswer::Refused(Refusal::Closed),
         Reached::Open(_) => match read_offer(pdu) {
-            Offered::Refused(f) => OfferStep {
-                answer: OfferAnswer::Refused(f),
-                session: s,
-            },
-            Offered::Immediate => OfferStep {
-                answer: OfferAnswer::Immediate,
-                session: s,
-            },
+            Offered::Refused(f) => OfferAnswer::Refused(f),
+            Offered::Immediate => OfferAnswer::Immediate,
             Offered::Numbered(n) => {
                 let w = s.window;
-                let step = window::offer(w, n, ticket, conn, pdu, headers, tickets);
-                let conns = s.conns;
-                let answer = step.answer;
-                let window = step.window;
-                OfferStep {
-                    answer: OfferAnswer::Numbered(answer),
-                    session: Session {
-                        level: s.level,
-                        window: window,
-                        conns: conns,
-                    },
-                }
+                OfferAnswer::Numbered(window::offer(w, n, ticket, conn, pdu, headers, tickets))
             }
         },
     }
@@ -152,25 +126,20 @@ pub fn take(
     ensures { λ r. ⌜ ((hs ts : List ℕ)
         → Did (Call.take (now (out .entry)))
         (state s (now (headers .entry)) (now (tickets .entry)) hs ts) (takeAnswer (r .answer)) (now (out .exit))
-        (state (r .session) (now (headers .entry)) (now (tickets .entry)) hs ts)) ⌝ }
+        (state (afterTake s (r .answer) (r .window)) (now (headers .entry)) (now (tickets .entry)) hs ts)) ⌝ }
 {
+    let w = s.window;
     if out.len() < HEADER_BYTES {
         return TakeStep {
             answer: TakeAnswer::Refused(Refusal::Buffer),
-            session: s,
+            window: w,
         };
     }
-    let w = s.window;
     let step = window::take(w, headers, tickets, out);
     let answer = step.answer;
     let window = step.window;
-    let conns = s.conns;
     TakeStep {
         answer: TakeAnswer::Taken(answer),
-        session: Session {
-            level: s.level,
-            window: window,
-            conns: conns,
-        },
+        window: window,
     }
 }

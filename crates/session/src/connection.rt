@@ -2,13 +2,12 @@
 use crate::Session;
 use ledger::Ledger;
 use refusal::Refusal;
-use window::CONNECTIONS;
-use window::CONNS;
+use window::Window;
 ghost use mathlib.Core.Path.{_≡_};
 ghost use mathlib.Core.List.{List, []};
-ghost use Prim.Native.Nat.{ℕ, _<_};
-ghost use Rattle.session.specs.Book.{Call, connections};
-ghost use Rattle.session.specs.Agree.{Did, state, Reaches, withLedger, LeavesConns, openAnswer, logoutAnswer};
+ghost use Prim.Native.Nat.{ℕ};
+ghost use Rattle.session.specs.Book.{Call};
+ghost use Rattle.session.specs.Agree.{Did, state, Reaches, ReachesAt, Closing, openAnswer, afterOpen, logoutAnswer, afterLogout};
 
 // The connection that a call names.
 pub enum Reached {
@@ -19,94 +18,84 @@ pub enum Reached {
 
 pub enum OpenAnswer {
     Refused(Refusal),
-    Opened,
+    // With the connection's ledger.
+    Opened(Ledger),
 }
 
-pub struct OpenStep {
-    pub answer: OpenAnswer,
-    pub session: Session,
+// What a logout closes: every connection of the session, or its own.
+pub enum Closes {
+    Session,
+    Connection,
 }
 
 pub enum LogoutAnswer {
     Refused(Refusal),
-    LoggedOut { emptied: u32, voided: u32 },
+    LoggedOut {
+        emptied: u32,
+        voided: u32,
+        closes: Closes,
+    },
 }
 
+// With the window after it; of a refusal it is as it was.
 pub struct LogoutStep {
     pub answer: LogoutAnswer,
-    pub session: Session,
+    pub window: Window,
+}
+
+// A connection, by its ledger. The ledger is made of its numbers and not copied, or the compiler would keep all four in
+// memory to copy one.
+fn by_ledger(l: Ledger) -> Reached
+    ensures { λ r. ⌜ ReachesAt l r ⌝ }
+{
+    if l.is_open {
+        Reached::Open(Ledger {
+            is_open: true,
+            next: l.next,
+            held: l.held,
+        })
+    } else {
+        Reached::Closed
+    }
 }
 
 // Finds the connection of a number.
 pub(crate) fn reach(s: Session, conn: u32) -> Reached
     ensures { λ r. ⌜ Reaches s conn r ⌝ }
 {
-    if CONNECTIONS <= conn {
-        return Reached::NoConn;
-    }
-    let c = conn as usize;
-    let l = s.conns[c];
-    if l.is_open {
-        Reached::Open(l)
-    } else {
-        Reached::Closed
-    }
-}
-
-// The session with another ledger of a connection.
-pub(crate) fn with_ledger(s: Session, conn: u32, l: Ledger) -> Session
-    requires { ⌜ conn < connections ⌝ }
-    ensures { λ r. ⌜ r ≡ withLedger s conn l ⌝ }
-{
-    let w = s.window;
-    let mut conns = s.conns;
-    conns[conn as usize] = l;
-    Session {
-        level: s.level,
-        window: w,
-        conns: conns,
+    let conns = s.conns;
+    match conn {
+        0 => by_ledger(conns[0]),
+        1 => by_ledger(conns[1]),
+        2 => by_ledger(conns[2]),
+        3 => by_ledger(conns[3]),
+        _ => Reached::NoConn,
     }
 }
 
 // Opens a connection with its first StatSN, its ledger empty. NOCONN, then OPEN.
-pub fn open_connection(s: Session, conn: u32, stat_sn: u32) -> OpenStep
+pub fn open_connection(s: Session, conn: u32, stat_sn: u32) -> OpenAnswer
     ensures { λ r. ⌜ ((h t hs ts : List ℕ)
         → Did (Call.opening conn «stat_sn»)
-        (state s h t hs ts) (openAnswer (r .answer)) []
-        (state (r .session) h t hs ts)) ⌝ }
+        (state s h t hs ts) (openAnswer r) []
+        (state (afterOpen s conn r) h t hs ts)) ⌝ }
 {
     match reach(s, conn) {
-        Reached::NoConn => OpenStep {
-            answer: OpenAnswer::Refused(Refusal::NoConn),
-            session: s,
-        },
-        Reached::Open(_) => OpenStep {
-            answer: OpenAnswer::Refused(Refusal::Open),
-            session: s,
-        },
-        Reached::Closed => {
-            let l = ledger::opened(stat_sn);
-            let after = with_ledger(s, conn, l);
-            OpenStep {
-                answer: OpenAnswer::Opened,
-                session: after,
-            }
-        }
+        Reached::NoConn => OpenAnswer::Refused(Refusal::NoConn),
+        Reached::Open(_) => OpenAnswer::Refused(Refusal::Open),
+        Reached::Closed => OpenAnswer::Opened(ledger::opened(stat_sn)),
     }
 }
 
-// The connections after a logout: none is open after reason 0, else conn is closed.
-fn conns_left(conns: [Ledger; CONNS], conn: u32, reason: u8) -> [Ledger; CONNS]
-    requires { ⌜ conn < connections ⌝ }
-    ensures { λ r. ⌜ LeavesConns conns conn reason r ⌝ }
+// What a logout closes: none is open after reason 0, else its own connection is closed.
+fn closed_by(reason: u8) -> Closes
+    ensures { λ r. ⌜ Closing reason r ⌝ }
 {
-    let closed = ledger::closed();
     if reason == 0 {
-        return [closed, closed, closed, closed];
+        Closes::Session
+    } else {
+        Closes::Connection
     }
-    let mut k = conns;
-    k[conn as usize] = closed;
-    k
 }
 
 // The effect of a logout on an open connection, with what it emptied and newly voided. NOCONN, CLOSED, then FIELD for a
@@ -115,39 +104,34 @@ pub fn logout(s: Session, conn: u32, reason: u8) -> LogoutStep
     ensures { λ r. ⌜ ((h t hs ts : List ℕ)
         → Did (Call.logout conn reason)
         (state s h t hs ts) (logoutAnswer (r .answer)) []
-        (state (r .session) h t hs ts)) ⌝ }
+        (state (afterLogout s conn (r .answer) (r .window)) h t hs ts)) ⌝ }
 {
+    let w = s.window;
     match reach(s, conn) {
         Reached::NoConn => LogoutStep {
             answer: LogoutAnswer::Refused(Refusal::NoConn),
-            session: s,
+            window: w,
         },
         Reached::Closed => LogoutStep {
             answer: LogoutAnswer::Refused(Refusal::Closed),
-            session: s,
+            window: w,
         },
         Reached::Open(_) => {
             if 2 < reason {
                 return LogoutStep {
                     answer: LogoutAnswer::Refused(Refusal::Field),
-                    session: s,
+                    window: w,
                 };
             }
-            let w = s.window;
             let step = window::logout(w, conn, reason);
-            let k = s.conns;
-            let conns = conns_left(k, conn, reason);
             let window = step.window;
             LogoutStep {
                 answer: LogoutAnswer::LoggedOut {
                     emptied: step.emptied,
                     voided: step.voided,
+                    closes: closed_by(reason),
                 },
-                session: Session {
-                    level: s.level,
-                    window: window,
-                    conns: conns,
-                },
+                window: window,
             }
         }
     }

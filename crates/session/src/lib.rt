@@ -1,7 +1,8 @@
 // A session: the command window and four connections, each with its status ledger. What a call changes is a small struct
 // by value and four arrays that the caller lends, each call only those that it touches: the window's headers and
 // tickets, and the headers and tickets of the statuses. The calls are in `command` (offer, take), `connection` (open,
-// logout) and `status` (send, acknowledge, snack, resend); none has a requirement of its caller, they refuse.
+// logout) and `status` (send, acknowledge, snack, resend); none has a requirement of its caller, they refuse. An answer
+// carries what is new of the struct, and no more, so that a caller who keeps it elsewhere writes only that.
 pub mod command;
 pub mod connection;
 pub mod status;

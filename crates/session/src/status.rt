@@ -2,11 +2,11 @@
 use crate::Session;
 use crate::connection::Reached;
 use crate::connection::reach;
-use crate::connection::with_ledger;
 use field::be32;
 use ledger::Acknowledged;
 use ledger::LEDGER_BYTES;
 use ledger::LEDGER_SLOTS;
+use ledger::Ledger;
 use ledger::Resent;
 use ledger::Run;
 use ledger::Sent;
@@ -22,26 +22,20 @@ ghost use lib.ListN.{length};
 ghost use Rattle.request_header.specs.declared.Request.the-variants as Request;
 ghost use Rattle.request_header.specs.Request.{limits, readPdu, requestOf, snackOf, opcodeOf};
 ghost use Rattle.session.specs.Book.{Call, askedBy, asked};
-ghost use Rattle.session.specs.Agree.{Did, state, askedOf, sendAnswer, acknowledgeAnswer, snackAnswer, resendAnswer};
+ghost use Rattle.session.specs.Agree.{Did, state, askedOf, sendAnswer, afterSend, acknowledgeAnswer, afterAcknowledge, snackAnswer, resendAnswer};
 
 pub enum SendAnswer {
     Refused(Refusal),
+    // What is sent with this StatSN, and is no status.
     Sent(u32),
-}
-
-pub struct SendStep {
-    pub answer: SendAnswer,
-    pub session: Session,
+    // A status, with the connection's ledger after it.
+    Stored { stat_sn: u32, ledger: Ledger },
 }
 
 pub enum AcknowledgeAnswer {
     Refused(Refusal),
-    Acknowledged(u32),
-}
-
-pub struct AcknowledgeStep {
-    pub answer: AcknowledgeAnswer,
-    pub session: Session,
+    // With the connection's ledger after it.
+    Acknowledged { count: u32, ledger: Ledger },
 }
 
 // What a SNACK call asks for.
@@ -70,82 +64,52 @@ pub fn send(
     out: &mut [u8],
     statuses: &mut [u8; LEDGER_BYTES],
     status_tickets: &mut [u32; LEDGER_SLOTS],
-) -> SendStep
+) -> SendAnswer
     ensures { λ x. ⌜ ((h t : List ℕ)
         → Did (Call.send conn ticket r (now (out .entry)))
         (state s h t (now (statuses .entry)) (now («status_tickets» .entry)))
-        (sendAnswer (x .answer)) (now (out .exit))
-        (state (x .session) h t (now (statuses .exit)) (now («status_tickets» .exit)))) ⌝ }
+        (sendAnswer x) (now (out .exit))
+        (state (afterSend s conn x) h t (now (statuses .exit)) (now («status_tickets» .exit)))) ⌝ }
 {
     if out.len() < HEADER_BYTES {
-        return SendStep {
-            answer: SendAnswer::Refused(Refusal::Buffer),
-            session: s,
-        };
+        return SendAnswer::Refused(Refusal::Buffer);
     }
     match reach(s, conn) {
-        Reached::NoConn => SendStep {
-            answer: SendAnswer::Refused(Refusal::NoConn),
-            session: s,
-        },
-        Reached::Closed => SendStep {
-            answer: SendAnswer::Refused(Refusal::Closed),
-            session: s,
-        },
+        Reached::NoConn => SendAnswer::Refused(Refusal::NoConn),
+        Reached::Closed => SendAnswer::Refused(Refusal::Closed),
         Reached::Open(l) => {
             let w = s.window;
             let e = window::exp_cmd_sn(w);
             let m = window::max_cmd_sn(w);
             let c = conn as usize;
             match ledger::send(l, c, ticket, r, e, m, out, statuses, status_tickets) {
-                Sent::Refused(f) => SendStep {
-                    answer: SendAnswer::Refused(f),
-                    session: s,
+                Sent::Refused(f) => SendAnswer::Refused(f),
+                Sent::NotStored(n) => SendAnswer::Sent(n),
+                Sent::Stored { stat_sn, ledger } => SendAnswer::Stored {
+                    stat_sn: stat_sn,
+                    ledger: ledger,
                 },
-                Sent::NotStored(n) => SendStep {
-                    answer: SendAnswer::Sent(n),
-                    session: s,
-                },
-                Sent::Stored { stat_sn, ledger } => {
-                    let after = with_ledger(s, conn, ledger);
-                    SendStep {
-                        answer: SendAnswer::Sent(stat_sn),
-                        session: after,
-                    }
-                }
             }
         }
     }
 }
 
 // Acknowledges the statuses of a connection before an ExpStatSN, with their count. NOCONN, CLOSED, STALE.
-pub fn acknowledge(s: Session, conn: u32, exp_stat_sn: u32) -> AcknowledgeStep
+pub fn acknowledge(s: Session, conn: u32, exp_stat_sn: u32) -> AcknowledgeAnswer
     ensures { λ r. ⌜ ((h t hs ts : List ℕ)
         → Did (Call.acknowledge conn «exp_stat_sn»)
-        (state s h t hs ts) (acknowledgeAnswer (r .answer)) []
-        (state (r .session) h t hs ts)) ⌝ }
+        (state s h t hs ts) (acknowledgeAnswer r) []
+        (state (afterAcknowledge s conn r) h t hs ts)) ⌝ }
 {
     match reach(s, conn) {
-        Reached::NoConn => AcknowledgeStep {
-            answer: AcknowledgeAnswer::Refused(Refusal::NoConn),
-            session: s,
-        },
-        Reached::Closed => AcknowledgeStep {
-            answer: AcknowledgeAnswer::Refused(Refusal::Closed),
-            session: s,
-        },
+        Reached::NoConn => AcknowledgeAnswer::Refused(Refusal::NoConn),
+        Reached::Closed => AcknowledgeAnswer::Refused(Refusal::Closed),
         Reached::Open(l) => match ledger::acknowledge(l, exp_stat_sn) {
-            Acknowledged::Stale => AcknowledgeStep {
-                answer: AcknowledgeAnswer::Refused(Refusal::Stale),
-                session: s,
+            Acknowledged::Stale => AcknowledgeAnswer::Refused(Refusal::Stale),
+            Acknowledged::Good { count, ledger } => AcknowledgeAnswer::Acknowledged {
+                count: count,
+                ledger: ledger,
             },
-            Acknowledged::Good { count, ledger } => {
-                let after = with_ledger(s, conn, ledger);
-                AcknowledgeStep {
-                    answer: AcknowledgeAnswer::Acknowledged(count),
-                    session: after,
-                }
-            }
         },
     }
 }

@@ -17,6 +17,15 @@ use Rattle.window.specs.Bit.{bitAt, withBit, without}
 use Rattle.window.specs.Book.{Place, empty, holds, gapless, sumOf}
 use Rattle.window.specs.Agree.{Maps, heldBit}
 
+-- a list of four is its four elements
+pub four : {A : Type 0} (d : A) (l : List A) → length l ≡ 4 → getD l 0 d ∷ getD l 1 d ∷ getD l 2 d ∷ getD l 3 d ∷ [] ≡ l
+four d [] h = absurd (omega arith)
+four d (a ∷ []) h = absurd (omega arith)
+four d (a ∷ (b ∷ [])) h = absurd (omega arith)
+four d (a ∷ (b ∷ (c ∷ []))) h = absurd (omega arith)
+four d (a ∷ (b ∷ (c ∷ (e ∷ [])))) h = refl
+four d (a ∷ (b ∷ (c ∷ (e ∷ (f ∷ l))))) h = absurd (omega arith)
+
 pub bit-zero : (n : ℕ) → bitAt n 0 ≡ n % 2
 unfolding bitAt
 bit-zero n = rw div-one

@@ -5,6 +5,7 @@ use mathlib.Core.Path.{_≡_}
 use mathlib.Core.List.{List, []}
 use lib.ListN.{length, getD, set, replicate}
 use lib.Seq.{paste}
+use lib.Bits.{bitOr}
 use Rattle.store.specs.Slot.{headerSize, slotOf}
 use Rattle.window.specs.Bit.{bitAt}
 use Rattle.window.specs.Book.{places, connections, remembered, Origin, none, connection, Place, empty, holds, Book, next, gapless, freshBook, Call, offer, take, logout, Answer, kept, duplicate, passed, beyond, nothing, command, void, loggedOut, bookStep, isFrom, one-if}
@@ -20,7 +21,7 @@ use Rattle.window.specs.declared.Taken.the-variants.{Nothing, Void, Comm
 -- ---- the answers
 
 abbrev pub offerAnswer : Offered → Answer
-offerAnswer Kept = kept
+offerAnswer (Kept p) = kept
 offerAnswer Duplicate = duplicate
 offerAnswer Passed = passed
 offerAnswer Beyond = beyond
@@ -43,6 +44,19 @@ pub record State : Type 0 where
 
 abbrev pub state : Window → List ℕ → List ℕ → State
 state w h t = record { window = w; headers = h; tickets = t }
+
+-- The window after an offer: what is kept has its place in the maps.
+unfoldable pub afterOffer : Window → (conn : ℕ) → Offered → Window
+afterOffer w c (Kept p) = record {
+  next = w .next;
+  handed = w .handed;
+  held = bitOr (w .held) p;
+  voided = w .voided;
+  origins = set (w .origins) c (bitOr (getD (w .origins) c 0) p);
+}
+afterOffer w c Duplicate = w
+afterOffer w c Passed = w
+afterOffer w c Beyond = w
 
 -- What the maps have for a place: held, void, and of connection c.
 unfoldable pub heldBit : Place → ℕ

@@ -12,7 +12,7 @@ ghost use Rattle.store.specs.Slot.{headerSize};
 ghost use Rattle.window.specs.Bit.{without, eachWithout};
 ghost use Rattle.window.specs.Book.{Book, connections, remembered, expCmdSN, maxCmdSN, Call, Answer, handedOn, firstPlace, closeSession, recovery};
 ghost use Rattle.field.specs.Field.{pick};
-ghost use Rattle.window.specs.Agree.{Agrees, Did, IsFresh, OriginAt, state, offerAnswer, takeAnswer, originOf};
+ghost use Rattle.window.specs.Agree.{Agrees, Did, IsFresh, OriginAt, state, offerAnswer, afterOffer, takeAnswer, originOf};
 
 // The places of a window; how many slots they have, and the bytes that these take.
 pub const PLACES: u32 = 64;
@@ -52,15 +52,11 @@ pub struct FreshWindow {
 }
 
 pub enum Offered {
-    Kept,
+    // With the map of its place alone, which is new in the map of the held places and in that of its connection.
+    Kept(u64),
     Duplicate,
     Passed,
     Beyond,
-}
-
-pub struct OfferStep {
-    pub answer: Offered,
-    pub window: Window,
 }
 
 // The connection that a command came on, if it is still its own.
@@ -124,7 +120,7 @@ pub fn max_cmd_sn(w: Window) -> u32
 }
 
 // Offers a numbered command: kept, duplicate, passed or beyond. What is kept is its header, the first 48 bytes of the
-// PDU, with the ticket and the connection.
+// PDU, with the ticket and the connection; the caller enters its place in the maps.
 pub fn offer(
     w: Window,
     number: u32,
@@ -133,49 +129,28 @@ pub fn offer(
     pdu: &[u8],
     headers: &mut [u8; WINDOW_BYTES],
     tickets: &mut [u32; WINDOW_SLOTS],
-) -> OfferStep
+) -> Offered
     requires { ⌜ (conn < connections) × (headerSize ≤ length (now pdu)) ⌝ }
     ensures { λ r. ⌜ Did (Call.offer number ticket conn (take headerSize (now (pdu .entry))))
         (state w (now (headers .entry)) (now (tickets .entry)))
-        (offerAnswer (r .answer)) []
-        (state (r .window) (now (headers .exit)) (now (tickets .exit))) ⌝ }
+        (offerAnswer r) []
+        (state (afterOffer w conn r) (now (headers .exit)) (now (tickets .exit))) ⌝ }
 {
     let d = std::num::wrapping_sub_u32(number, w.next);
     if PLACES <= d {
         // d is 2^32 less how far the number lies behind R.
         if u32::MAX - d < w.handed {
-            return OfferStep {
-                answer: Offered::Passed,
-                window: w,
-            };
+            return Offered::Passed;
         }
-        return OfferStep {
-            answer: Offered::Beyond,
-            window: w,
-        };
+        return Offered::Beyond;
     }
     if map::bit(w.held, d) == 1 {
-        return OfferStep {
-            answer: Offered::Duplicate,
-            window: w,
-        };
+        return Offered::Duplicate;
     }
     let slot = (number % PLACES) as usize;
     store::put(headers, slot * store::HEADER_BYTES, pdu);
     tickets[slot] = ticket;
-    let held = map::with_bit(w.held, d);
-    let m = w.origins;
-    let origins = map::with_origin(m, conn, d);
-    OfferStep {
-        answer: Offered::Kept,
-        window: Window {
-            next: w.next,
-            handed: w.handed,
-            held: held,
-            voided: w.voided,
-            origins: origins,
-        },
-    }
+    Offered::Kept(map::only(d))
 }
 
 // Takes the next command: R if it is held, its header into the first 48 bytes of out, or void; else nothing.

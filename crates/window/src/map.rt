@@ -1,14 +1,14 @@
 // Maps of the 64 places, one bit for each: bit d is for the number R + d. What a map says of the places is in
-// specs/Agree.antt; each function here says which number it makes.
+// specs/Agree.antt; each function here says which number it makes. A connection's map is taken by a number that is
+// written out, so that the compiler has no need of an array in memory.
 ghost use mathlib.Core.Path.{_≡_};
 ghost use Prim.Native.Nat.{_-_, _^_, _<_, _≤_};
 ghost use lib.ListN.{getD, set};
 ghost use lib.Dec.{ltb};
-ghost use Rattle.window.specs.Bit.{bitAt, withBit, without, eachWithout};
+ghost use Rattle.window.specs.Bit.{bitAt, without, eachWithout};
 ghost use Rattle.window.specs.Book.{places, connections};
 ghost use Rattle.field.specs.Field.{pick};
 ghost use Rattle.window.specs.Agree.{Counts};
-use crate::CONNECTIONS;
 use crate::CONNS;
 use crate::PLACES;
 
@@ -20,12 +20,12 @@ pub(crate) fn bit(map: u64, d: u32) -> u64
     (map >> d) % 2
 }
 
-// The map with bit d set.
-pub(crate) fn with_bit(map: u64, d: u32) -> u64
+// The map of place d alone.
+pub(crate) fn only(d: u32) -> u64
     requires { ⌜ d < places ⌝ }
-    ensures { λ r. ⌜ r ≡ withBit map d ⌝ }
+    ensures { λ r. ⌜ r ≡ 2 ^ d ⌝ }
 {
-    map | (1u64 << d)
+    1u64 << d
 }
 
 // The count of held places without a gap from the first: 64 where all are held.
@@ -51,36 +51,25 @@ pub(crate) fn below(g: u32) -> u64
 pub(crate) fn of(origins: [u64; CONNS], conn: u32) -> u64
     ensures { λ r. ⌜ r ≡ getD origins conn 0 ⌝ }
 {
-    if conn < CONNECTIONS {
-        let c = conn as usize;
-        origins[c]
-    } else {
-        0
+    match conn {
+        0 => origins[0],
+        1 => origins[1],
+        2 => origins[2],
+        3 => origins[3],
+        _ => 0,
     }
-}
-
-// The maps with bit d of a connection's set.
-pub(crate) fn with_origin(origins: [u64; CONNS], conn: u32, d: u32) -> [u64; CONNS]
-    requires { ⌜ (d < places) × (conn < connections) ⌝ }
-    ensures { λ r. ⌜ r ≡ set origins conn (withBit (getD origins conn 0) d) ⌝ }
-{
-    let c = conn as usize;
-    let mut m = origins;
-    m[c] = with_bit(m[c], d);
-    m
 }
 
 // The maps with a connection's empty.
 pub(crate) fn without_origin(origins: [u64; CONNS], conn: u32) -> [u64; CONNS]
     ensures { λ r. ⌜ r ≡ pick (ltb conn connections) (set origins conn 0) origins ⌝ }
 {
-    if conn < CONNECTIONS {
-        let c = conn as usize;
-        let mut m = origins;
-        m[c] = 0;
-        m
-    } else {
-        origins
+    match conn {
+        0 => [0, origins[1], origins[2], origins[3]],
+        1 => [origins[0], 0, origins[2], origins[3]],
+        2 => [origins[0], origins[1], 0, origins[3]],
+        3 => [origins[0], origins[1], origins[2], 0],
+        _ => origins,
     }
 }
 

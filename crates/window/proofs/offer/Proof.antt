@@ -3,13 +3,14 @@ use Prim.Native.Nat.{ℕ, _%_, _<_, _+_, _*_}
 use mathlib.Core.Path.{_≡_, refl, sym, _∙_, ap}
 use native.Mathlib.Omega.{arith}
 use lib.ListN as ListN
-use lib.ListN.{getD, length}
+use lib.Bits.{bitOr}
+use lib.ListN.{getD, length, set}
 use lib.Seq.{length-take-le, take-take, paste}
 use mathlib.Core.List.{List, _++_}
-use Rattle.window.specs.Bit.{bitAt}
+use Rattle.window.specs.Bit.{bitAt, withBit}
 use Rattle.window.proofs.Bits.{bit-lt}
 use Rattle.window.specs.Book.{empty}
-use Rattle.window.specs.Agree.{Puts}
+use Rattle.window.specs.Agree.{Puts, afterOffer}
 use Rattle.window.proofs.Steps.{met, offer-at, distance-is, step-passed, step-beyond, step-duplicate, step-kept, place-bit, held-none, keep-agrees}
 use borrow.Author.Needs.{needs}
 use Rattle.window.proofs.offer.Statement.{statement}
@@ -22,6 +23,7 @@ zero-bit : (n d r : ℕ) → r ≡ bitAt n d → (r ≡ 1 → ⊥) → r ≡ 0
 zero-bit n d r e h = omega (arith, bit-lt n d)
 
 returns : tie.Need-returns
+unfolding afterOffer
 returns c =
     let a = c .before .before .before .before .before .args in
     let sub = c .before .before .before .wrapping-sub-u32 in
@@ -36,6 +38,7 @@ returns c =
     }
 
 returns-2 : tie.Need-returns-2
+unfolding afterOffer
 returns-2 c =
     let a = c .before .before .before .before .before .args in
     let sub = c .before .before .before .wrapping-sub-u32 in
@@ -50,6 +53,7 @@ returns-2 c =
     }
 
 returns-3 : tie.Need-returns-3
+unfolding afterOffer
 returns-3 c =
     let a = c .before .before .before .before .before .args in
     let sub = c .before .before .before .wrapping-sub-u32 in
@@ -64,30 +68,32 @@ returns-3 c =
     }
 
 returns-4 : tie.Need-returns-4
-unfolding Puts
+unfolding Puts afterOffer withBit
 returns-4 c =
-    let a = c .before .before .before .before .before .before .before .before .before .before .args in
-    let sub = c .before .before .before .before .before .before .before .before .wrapping-sub-u32 in
+    let a = c .before .before .before .before .before .before .before .before .args in
+    let sub = c .before .before .before .before .before .before .wrapping-sub-u32 in
     let d = sub .result in
+    let only = c .only .ensures in
+    let put = c .before .put .ensures ∙ paste-front (a .headers .now) (a .pdu .now) (a .number % 64 * 48) in
     record {
       meets = λ b g.
           let low : d < 64 = omega arith in
-          let bit = c .before .before .before .before .before .before .bit in
+          let bit = c .before .before .before .before .bit in
           let none : getD (b .held) d empty ≡ empty =
           held-none (getD (b .held) d empty)
-          (place-bit (a .w) (a .headers .now) (a .tickets .now) b d (bit .result) g (bit .ensures) ∙ zero-bit (a .w .held) d (bit .result) (bit .ensures) (c .before .before .before .before .before .if3 .left)) in
+          (place-bit (a .w) (a .headers .now) (a .tickets .now) b d (bit .result) g (bit .ensures) ∙ zero-bit (a .w .held) d (bit .result) (bit .ensures) (c .before .before .before .if3 .left)) in
           let size : length (ListN.take 48 (a .pdu .now)) ≡ 48 = length-take-le 48 (a .pdu .now) (omega arith) in
-          rw (c .before .before .before .put .ensures ∙ paste-front (a .headers .now) (a .pdu .now) (a .number % 64 * 48)) (met _ _ _ _ _ b _
+          rw put (met _ _ _ _ _ b _
           (offer-at b (a .number) (a .ticket) (a .conn) (ListN.take 48 (a .pdu .now)) d (distance-is b (a .number) d (a .w .next) (g .next) (sub .ensures) (omega arith))
           ∙ step-kept b d _ low none)
           (keep-agrees (a .w) _ (a .headers .now) (a .tickets .now) b d (a .number) (a .ticket) (a .conn) (ListN.take 48 (a .pdu .now)) g low (sub .ensures) none size
-          refl refl (c .before .before .with-bit .ensures) refl (omega arith) (c .with-origin .ensures)));
-      stays = (c .before .before .before .put .ensures ∙ paste-front (a .headers .now) (a .pdu .now) (a .number % 64 * 48), refl);
+          refl refl (ap (bitOr (a .w .held)) only) refl (omega arith)
+          (ap (λ (x : ℕ). set (a .w .origins) (a .conn) (bitOr (getD (a .w .origins) (a .conn) 0) x)) only)));
+      stays = (put, refl);
     }
 
 pub offer-spec : {M : Type 1} → statement M
 offer-spec =
     tie.close (tie.spec
     (λ c κs. search needs) (λ c. search needs) returns returns-2 (λ c κs. search needs) returns-3 (λ c. search needs)
-    (λ c. search needs) (λ c κs. search needs) (λ c. search needs) (λ c. search needs) (λ c κs. search needs)
-    (λ c κs. search needs) returns-4)
+    (λ c. search needs) (λ c κs. search needs) (λ c. search needs) (λ c. search needs) (λ c κs. search needs) returns-4)

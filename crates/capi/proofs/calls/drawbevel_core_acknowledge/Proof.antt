@@ -4,13 +4,24 @@ use Rattle.capi.proofs.calls.drawbevel_core_acknowledge.Statement.{stat
 use Rattle.capi.proofs.calls.drawbevel_core_acknowledge.Tie as tie
 
 returns : tie.Need-returns
-returns c h t hs ts = record {
-  answer = acknowledgeAnswer (c .before .before .before .before .before .acknowledge .result .answer);
-  did = rw (← (c .before .before .before .before .before .before .load .ensures), c .before .store .ensures) (c .before .before .before .before .before .acknowledge .ensures h t hs ts);
-  words = c .acknowledged .ensures;
-}
+returns c h t hs ts =
+    let e = c .before .before .f .given .1 in
+    record {
+      answer = acknowledgeAnswer (c .before .before .before .before .acknowledge .result);
+      did = rw (← (c .before .before .before .before .before .load .ensures), e) (rw e at (c .before .before .before .before .acknowledge .ensures h t hs ts));
+      words = rw e (c .refused .ensures);
+    }
+
+returns-2 : tie.Need-returns-2
+returns-2 c h t hs ts =
+    let e = c .before .before .before .before .count .given .1 in
+    record {
+      answer = acknowledgeAnswer (c .before .before .before .before .before .before .acknowledge .result);
+      did = rw (c .before .store-ledger .ensures, ← (c .before .before .before .before .before .before .before .load .ensures), e) (rw e at (c .before .before .before .before .before .before .acknowledge .ensures h t hs ts));
+      words = rw e;
+    }
 
 pub drawbevel-core-acknowledge-spec : {M : Type 1} → statement M
 drawbevel-core-acknowledge-spec =
     tie.close (tie.spec
-    (λ c κs. search needs) (λ c κs. search needs) (λ c κs. search needs) (λ c κs. search needs) returns)
+    (λ c κs. search needs) (λ c κs. search needs) (λ c. search needs) (λ c κs. search needs) (λ c. search needs) (λ c κs. search needs) returns returns-2)

@@ -4,14 +4,33 @@ use Rattle.capi.proofs.calls.send_known.Statement.{statement}
 use Rattle.capi.proofs.calls.send_known.Tie as tie
 
 returns : tie.Need-returns
-returns c h t = record {
-  answer = sendAnswer (c .before .before .before .before .before .before .before .send .result .answer);
-  did = rw (← (c .before .before .before .before .before .before .before .before .before .before .before .load .ensures), c .before .store .ensures) (c .before .before .before .before .before .before .before .send .ensures h t);
-  words = c .sent .ensures;
-}
+returns c h t =
+    let e = c .before .before .f .given .1 in
+    record {
+      answer = sendAnswer (c .before .before .before .before .before .before .send .result);
+      did = rw (← (c .before .before .before .before .before .before .before .before .before .before .load .ensures), e) (rw e at (c .before .before .before .before .before .before .send .ensures h t));
+      words = rw e (c .refused .ensures);
+    }
+
+returns-2 : tie.Need-returns-2
+returns-2 c h t =
+    let e = c .before .before .stat-sn .given .1 in
+    record {
+      answer = sendAnswer (c .before .before .before .before .before .before .send .result);
+      did = rw (← (c .before .before .before .before .before .before .before .before .before .before .load .ensures), e) (rw e at (c .before .before .before .before .before .before .send .ensures h t));
+      words = rw e;
+    }
+
+returns-3 : tie.Need-returns-3
+returns-3 c h t =
+    let e = c .before .before .before .before .stat-sn2 .given .1 in
+    record {
+      answer = sendAnswer (c .before .before .before .before .before .before .before .before .send .result);
+      did = rw (c .before .store-ledger .ensures, ← (c .before .before .before .before .before .before .before .before .before .before .before .before .load .ensures), e) (rw e at (c .before .before .before .before .before .before .before .before .send .ensures h t));
+      words = rw e;
+    }
 
 pub send-known-spec : {M : Type 1} → statement M
 send-known-spec =
     tie.close (tie.spec
-    (λ c κs. search needs) (λ c κs. search needs) (λ c κs. search needs) (λ c κs. search needs) (λ c. search needs)
-    returns)
+    (λ c κs. search needs) (λ c κs. search needs) (λ c. search needs) (λ c κs. search needs) (λ c. search needs) (λ c. search needs) (λ c κs. search needs) (λ c. search needs) returns (λ c. search needs) returns-2 (λ c. search needs) returns-3)

@@ -48,10 +48,10 @@ returns-4 c hs ts =
 
 returns-5 : tie.Need-returns-5
 returns-5 c hs ts =
-    let a = c .before .before .before .before .before .before .before .before .before .before .before .before .before .before .args in
-    let i = rw (c .before .before .before .before .before .before .before .before .before .before .enum-told3 .given .1) at (c .before .before .before .before .before .before .before .before .before .before .before .before .reach .ensures) in
-    let n = rw (c .before .before .before .before .before .before .before .n .given .1) at (c .before .before .before .before .before .before .before .before .before .read-offer .ensures) in
-    by-window _ _ (a .s) hs ts _ _ _ [] refl (λ k. rw (offered-number (a .pdu .now) _ (sym n)) at k) (c .before .before .offer .ensures) (λ b g.
+    let a = c .before .before .before .before .before .before .before .before .before .before .before .before .args in
+    let i = rw (c .before .before .before .before .before .before .before .before .enum-told3 .given .1) at (c .before .before .before .before .before .before .before .before .before .before .reach .ensures) in
+    let n = rw (c .before .before .before .before .before .n .given .1) at (c .before .before .before .before .before .before .before .read-offer .ensures) in
+    by-window _ _ (a .s) hs ts _ _ _ [] refl (λ k. rw (offered-number (a .pdu .now) _ (sym n)) at k) (c .offer .ensures) (λ b g.
     let v = open-at (a .s) (a .headers .now) (a .tickets .now) hs ts b (a .conn) _ g i in
     offer-live b (a .conn) (a .ticket) (a .pdu .now) (v .book) _ (v .near) (v .is) n ∙ offer-numbered b (a .conn) (a .ticket) _ (a .pdu .now))
 

@@ -8,13 +8,13 @@ use Rattle.session.proofs.command.take.Tie as tie
 
 returns : tie.Need-returns
 returns c hs ts =
-    let a = c .before .before .args in
+    let a = c .before .before .before .args in
     refusing _ _ 1 (a .out .now) refl (λ b g. take-eq b (a .out .now) ∙ lend-short b (a .out .now) _ (c .if1 .taken))
 
 returns-2 : tie.Need-returns-2
 returns-2 c hs ts =
-    let a = c .before .before .before .before .before .before .before .before .before .args in
-    by-window _ _ (a .s) hs ts _ _ _ _ refl (λ k. tt) (c .before .before .before .before .take .ensures) (λ b g. take-eq b (a .out .now) ∙ lend-long b (a .out .now) _ (c .before .before .before .before .before .before .before .if1 .left))
+    let a = c .before .before .before .before .before .before .before .before .args in
+    by-window _ _ (a .s) hs ts _ _ _ _ refl (λ k. tt) (c .before .before .before .take .ensures) (λ b g. take-eq b (a .out .now) ∙ lend-long b (a .out .now) _ (c .before .before .before .before .before .if1 .left))
 
 pub take-spec : {M : Type 1} → statement M
 take-spec = tie.close (tie.spec

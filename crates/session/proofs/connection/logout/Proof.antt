@@ -6,49 +6,44 @@ use borrow.Author.Needs.{needs}
 use Rattle.window.specs.Book as W
 use Rattle.session.specs.Book as B
 use Rattle.session.specs.Book.{bookStep, step, loggedOut}
-use Rattle.session.proofs.Steps.{met, refusing, reach-none, reach-closed, open-at, reach-open, logout-eq, left-agrees, logout-field, logout-done}
+use Rattle.session.proofs.Steps.{met, refusing, reach-none, reach-closed, open-at, reach-open, logout-eq, closing-leaves, left-agrees, logout-field, logout-done}
 use Rattle.session.proofs.connection.logout.Statement.{statement}
 use Rattle.session.proofs.connection.logout.Tie as tie
 
 returns : tie.Need-returns
 returns c h t hs ts =
-    let a = c .before .before .before .before .args in
+    let a = c .before .before .before .before .before .args in
     let i = rw (c .before .enum-told3 .given .1) at (c .before .before .before .reach .ensures) in
     refusing _ _ 3 [] refl (λ b g.
     let v = open-at (a .s) h t hs ts b (a .conn) _ g i in
     logout-eq b (a .conn) (a .reason) ∙ reach-open b (a .conn) [] _ (v .book) (v .near) (v .is) ∙ logout-field b (a .conn) (a .reason) (c .if1 .taken))
 
-conns-left-requires : tie.Need-conns-left-requires
-conns-left-requires c κs =
-    let i = rw (c .before .before .before .before .enum-told3 .given .1) at (c .before .before .before .before .before .before .reach .ensures) in
-    i .near
-
 returns-2 : tie.Need-returns-2
 returns-2 c h t hs ts =
-    let a = c .before .before .before .args in
+    let a = c .before .before .before .before .args in
     let far : 4 ≤ a .conn = rw (c .enum-told .given .1) at (c .before .before .reach .ensures) in
     refusing _ _ 7 [] refl (λ b g. logout-eq b (a .conn) (a .reason) ∙ reach-none b (a .conn) [] _ far)
 
 returns-3 : tie.Need-returns-3
 returns-3 c h t hs ts =
-    let a = c .before .before .before .args in
+    let a = c .before .before .before .before .args in
     let n = rw (c .enum-told2 .given .1) at (c .before .before .reach .ensures) in
     refusing _ _ 8 [] refl (λ b g. logout-eq b (a .conn) (a .reason) ∙ reach-closed (a .s) h t hs ts b (a .conn) [] _ g (n .0) (n .1))
 
 returns-4 : tie.Need-returns-4
 unfolding loggedOut
 returns-4 c h t hs ts =
-    let a = c .before .before .before .before .before .before .before .before .before .args in
-    let i = rw (c .before .before .before .before .before .before .enum-told3 .given .1) at (c .before .before .before .before .before .before .before .before .reach .ensures) in
-    let w = c .before .before .before .logout .ensures h t in
+    let a = c .before .before .before .before .before .before .before .before .args in
+    let i = rw (c .before .before .before .before .enum-told3 .given .1) at (c .before .before .before .before .before .before .reach .ensures) in
+    let w = c .before .before .logout .ensures h t in
     record {
       meets = λ b g.
           let v = open-at (a .s) h t hs ts b (a .conn) _ g i in
           let m = w .meets (b .window) (g .window) in
           met _ _ _ _ _ b _
-          (logout-eq b (a .conn) (a .reason) ∙ reach-open b (a .conn) [] _ (v .book) (v .near) (v .is) ∙ logout-done b (a .conn) (a .reason) (c .before .before .before .before .before .if1 .left)
+          (logout-eq b (a .conn) (a .reason) ∙ reach-open b (a .conn) [] _ (v .book) (v .near) (v .is) ∙ logout-done b (a .conn) (a .reason) (c .before .before .before .if1 .left)
           ∙ ap (λ (y : W.Answer). step (B.window y) [] (record { level = b .level; window = W.bookStep (b .window) (W.logout (a .conn) (a .reason)) .book; conns = B.connsLeft (b .conns) (a .conn) (a .reason) })) (sym (m .answer)))
-          (left-agrees (a .s) h t hs ts b (a .conn) (a .reason) _ _ _ g (v .near) (c .before .conns-left .ensures) (m .agrees));
+          (left-agrees (a .s) h t hs ts b (a .conn) (a .reason) _ _ _ g (v .near) (closing-leaves (a .s .conns) (a .conn) (a .reason) (c .closed-by .result) (v .near) (g .conns-size) (c .closed-by .ensures)) (m .agrees));
       stays = tt;
     }
 
@@ -56,4 +51,4 @@ pub logout-spec : {M : Type 1} → statement M
 logout-spec =
     tie.close (tie.spec
     (λ c κs. search needs) (λ c. search needs) (λ c. search needs) (λ c. search needs) returns (λ c κs. search needs)
-    conns-left-requires returns-2 returns-3 returns-4)
+    (λ c κs. search needs) returns-2 returns-3 returns-4)

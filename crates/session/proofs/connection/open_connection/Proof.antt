@@ -8,11 +8,6 @@ use Rattle.session.proofs.Steps.{met, refusing, is-closed, open-at, con
 use Rattle.session.proofs.connection.open_connection.Statement.{statement}
 use Rattle.session.proofs.connection.open_connection.Tie as tie
 
-with-ledger-requires : tie.Need-with-ledger-requires
-with-ledger-requires c κs =
-    let n = rw (c .before .enum-told3 .given .1) at (c .before .before .before .reach .ensures) in
-    n .0
-
 returns : tie.Need-returns
 returns c h t hs ts =
     let a = c .before .before .before .args in
@@ -30,17 +25,17 @@ returns-2 c h t hs ts =
 returns-3 : tie.Need-returns-3
 unfolding ConnAgrees
 returns-3 c h t hs ts =
-    let a = c .before .before .before .before .before .args in
-    let n = rw (c .before .before .enum-told3 .given .1) at (c .before .before .before .before .reach .ensures) in
-    rw (c .with-ledger .ensures) (record {
+    let a = c .before .before .before .before .args in
+    let n = rw (c .before .enum-told3 .given .1) at (c .before .before .before .reach .ensures) in
+    record {
       meets = λ b g.
           met _ _ _ _ _ b _ (open-closed b (a .conn) (a .stat-sn) (n .0) (is-closed (a .s) h t hs ts b g (a .conn) (n .0) (n .1)))
-          (conn-set (a .s) h t hs ts hs ts b (a .conn) _ _ g (n .0) (c .before .opened .ensures .agrees (a .conn) hs ts (n .0) (g .statuses-size) (g .tickets-size)) (λ j x q n y. y) (g .statuses-size) (g .tickets-size));
+          (conn-set (a .s) h t hs ts hs ts b (a .conn) _ _ g (n .0) (c .opened .ensures .agrees (a .conn) hs ts (n .0) (g .statuses-size) (g .tickets-size)) (λ j x q n y. y) (g .statuses-size) (g .tickets-size));
       stays = tt;
-    })
+    }
 
 pub open-connection-spec : {M : Type 1} → statement M
 open-connection-spec =
     tie.close (tie.spec
     (λ c κs. search needs) (λ c. search needs) (λ c. search needs) (λ c. search needs) (λ c κs. search needs)
-    with-ledger-requires returns returns-2 returns-3)
+    returns returns-2 returns-3)

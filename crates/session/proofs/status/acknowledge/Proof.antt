@@ -9,11 +9,6 @@ use Rattle.session.proofs.Steps.{met, refusing, reach-none, reach-close
 use Rattle.session.proofs.status.acknowledge.Statement.{statement}
 use Rattle.session.proofs.status.acknowledge.Tie as tie
 
-with-ledger-requires : tie.Need-with-ledger-requires
-with-ledger-requires c κs =
-    let i = rw (c .before .before .before .before .before .l .given .1) at (c .before .before .before .before .before .before .before .reach .ensures) in
-    i .near
-
 returns : tie.Need-returns
 returns c h t hs ts =
     let a = c .before .before .before .args in
@@ -39,21 +34,21 @@ returns-3 c h t hs ts =
 returns-4 : tie.Need-returns-4
 unfolding LA.AcknowledgesAt ConnAgrees
 returns-4 c h t hs ts =
-    let a = c .before .before .before .before .before .before .before .before .before .args in
-    let i = rw (c .before .before .before .before .before .before .l .given .1) at (c .before .before .before .before .before .before .before .before .reach .ensures) in
-    rw (c .with-ledger .ensures) (record {
+    let a = c .before .before .before .before .before .before .before .before .args in
+    let i = rw (c .before .before .before .before .before .l .given .1) at (c .before .before .before .before .before .before .before .reach .ensures) in
+    record {
       meets = λ b g.
           let v = open-at (a .s) h t hs ts b (a .conn) _ g i in
-          let k = rw (c .before .before .count .given .1) at (c .before .before .before .before .acknowledge .ensures (a .conn) hs ts (v .book) (v .agrees)) in
+          let k = rw (c .before .count .given .1) at (c .before .before .before .acknowledge .ensures (a .conn) hs ts (v .book) (v .agrees)) in
           met _ _ _ _ _ b _
           (acknowledge-eq b (a .conn) (a .exp-stat-sn) ∙ reach-open b (a .conn) [] _ (v .book) (v .near) (v .is)
           ∙ acknowledge-good b (a .conn) (a .exp-stat-sn) _ (v .book) (k .0) (k .1))
           (conn-set (a .s) h t hs ts hs ts b (a .conn) _ _ g (v .near) (k .2) (λ j x q n y. y) (g .statuses-size) (g .tickets-size));
       stays = tt;
-    })
+    }
 
 pub acknowledge-spec : {M : Type 1} → statement M
 acknowledge-spec =
     tie.close (tie.spec
     (λ c κs. search needs) (λ c. search needs) (λ c. search needs) (λ c. search needs) (λ c κs. search needs)
-    (λ c. search needs) (λ c. search needs) with-ledger-requires returns returns-2 returns-3 returns-4)
+    (λ c. search needs) (λ c. search needs) returns returns-2 returns-3 returns-4)

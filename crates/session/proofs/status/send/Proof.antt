@@ -17,11 +17,6 @@ send-requires c κs =
     let i = rw (c .before .before .before .before .before .before .before .l .given .1) at (c .before .before .before .before .before .before .before .before .before .reach .ensures) in
     (i .near, c .before .before .before .before .before .before .before .before .before .before .if1 .left)
 
-with-ledger-requires : tie.Need-with-ledger-requires
-with-ledger-requires c κs =
-    let i = rw (c .before .before .before .before .before .before .before .before .before .before .before .before .before .l .given .1) at (c .before .before .before .before .before .before .before .before .before .before .before .before .before .before .before .reach .ensures) in
-    i .near
-
 returns-2 : tie.Need-returns-2
 returns-2 c h t =
     let a = c .before .before .before .before .before .args in
@@ -73,29 +68,29 @@ returns-5 c h t =
 returns-6 : tie.Need-returns-6
 unfolding ConnAgrees
 returns-6 c h t =
-    let a = c .before .before .before .before .before .before .before .before .before .before .before .before .before .before .before .before .before .before .before .args in
-    let i = rw (c .before .before .before .before .before .before .before .before .before .before .before .before .before .before .l .given .1) at (c .before .before .before .before .before .before .before .before .before .before .before .before .before .before .before .before .reach .ensures) in
-    let w = c .before .before .before .before .before .before .send .ensures in
-    let f = c .before .before .stat-sn .given in
+    let a = c .before .before .before .before .before .before .before .before .before .before .before .before .before .before .before .before .before .before .args in
+    let i = rw (c .before .before .before .before .before .before .before .before .before .before .before .before .before .l .given .1) at (c .before .before .before .before .before .before .before .before .before .before .before .before .before .before .before .reach .ensures) in
+    let w = c .before .before .before .before .before .send .ensures in
+    let f = c .before .stat-sn .given in
     let stays = rw (f .1) at (w .stays) in
-    rw (c .with-ledger .ensures) (record {
+    record {
       meets = λ b g.
           let v = open-at (a .s) h t (a .statuses .now) (a .status-tickets .now) b (a .conn) _ g i in
           let m = w .meets (v .book) (v .agrees) in
           met _ _ _ _ _ b _
-          (send-eq b (a .conn) (a .ticket) (a .r) (a .out .now) ∙ lend-long b (a .out .now) _ (c .before .before .before .before .before .before .before .before .before .before .before .before .before .before .before .before .before .if1 .left)
+          (send-eq b (a .conn) (a .ticket) (a .r) (a .out .now) ∙ lend-long b (a .out .now) _ (c .before .before .before .before .before .before .before .before .before .before .before .before .before .before .before .before .if1 .left)
           ∙ reach-open b (a .conn) (a .out .now) _ (v .book) (v .near) (v .is)
           ∙ send-stored b (a .conn) (a .ticket) (a .r) (a .out .now) (v .book) _ _ _
-          (c .before .before .before .before .before .before .before .before .before .before .before .exp-cmd-sn .ensures h t (b .window) (g .window)) (c .before .before .before .before .before .before .before .before .before .before .max-cmd-sn .ensures h t (b .window) (g .window))
+          (c .before .before .before .before .before .before .before .before .before .before .exp-cmd-sn .ensures h t (b .window) (g .window)) (c .before .before .before .before .before .before .before .before .before .max-cmd-sn .ensures h t (b .window) (g .window))
           (m .bytes) _ (rw (f .1) at (m .answer)))
           (conn-set (a .s) h t (a .statuses .now) (a .status-tickets .now) _ _ b (a .conn) _ _ g (v .near) (rw (f .1) at (m .agrees))
           (λ j y q n z. w .others j y q n z) (w .headers-size (g .statuses-size)) (w .tickets-size (g .tickets-size)));
       stays = rw (stays .0) (stays .1);
-    })
+    }
 
 pub send-spec : {M : Type 1} → statement M
 send-spec =
     tie.close (tie.spec
     returns (λ c κs. search needs) (λ c. search needs) (λ c. search needs) (λ c. search needs) (λ c κs. search needs) (λ c κs. search needs)
-    send-requires (λ c. search needs) (λ c. search needs) (λ c. search needs) with-ledger-requires returns-2 returns-3 (λ c. search needs)
+    send-requires (λ c. search needs) (λ c. search needs) (λ c. search needs) returns-2 returns-3 (λ c. search needs)
     returns-4 (λ c. search needs) returns-5 (λ c. search needs) returns-6)
