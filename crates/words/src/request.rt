@@ -91,8 +91,10 @@ pub fn words(s: &[u8]) -> [u64; 17]
 {
     let first = s[0];
     let op = first % 64;
-    let isid = be(s, 8, 4) * 65536 + be(s, 12, 2);
+    let at_8 = be(s, 8, 4);
+    let at_12 = be(s, 12, 2);
     let tsih = be(s, 14, 2);
+    let isid = at_8 * 65536 + at_12;
     let own = own_words(s, op, isid, tsih);
     let itt = be(s, 16, 4);
     let cmd_sn = be(s, 24, 4);
@@ -103,7 +105,10 @@ pub fn words(s: &[u8]) -> [u64; 17]
         own[0],
         flag(field::flag(first, 64) & (op != 0x10)),
         unless(op == 0x10, cmd_sn),
-        unless((op == 0x03) | (op == 0x06), isid * 65536 + tsih),
+        unless(
+            (op == 0x03) | (op == 0x06),
+            at_8 * 0x1_0000_0000 + at_12 * 65536 + tsih,
+        ),
         itt,
         exp_stat_sn,
         data_start,

@@ -5,6 +5,7 @@
 mod c;
 
 use c::*;
+use std::mem::MaybeUninit;
 
 /// Words of a PDU: opcode, common fields, place of the data, the kind's own fields.
 pub type PduWords = [u64; 17];
@@ -45,11 +46,18 @@ pub struct LoginParts {
     seen: Seen,
 }
 
-/// 0 and the PDU's words, or a refusal's number.
+/// The PDU's words, or a refusal's number.
 #[inline]
-pub fn read(input: &[u8], pdu: &mut PduWords) -> u32 {
-    // SAFETY: pointer and length are those of one slice, and both references live through the call.
-    unsafe { drawbevel_core_read(input.as_ptr(), input.len(), pdu) }
+pub fn read(input: &[u8]) -> Result<PduWords, u32> {
+    let mut pdu = MaybeUninit::uninit();
+    // SAFETY: pointer and length are those of one slice, and both references live through the call, which reads no word
+    // and has written all of them where it answers 0.
+    unsafe {
+        match drawbevel_core_read(input.as_ptr(), input.len(), pdu.as_mut_ptr()) {
+            0 => Ok(pdu.assume_init()),
+            number => Err(number),
+        }
+    }
 }
 
 /// 0 and the header in the first 48 bytes of `out`, or a refusal's number.

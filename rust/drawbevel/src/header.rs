@@ -7,10 +7,9 @@ use calls::{Numbers, Pdu, Refusal, Response};
 /// Read a whole PDU.
 #[inline]
 pub fn read(input: &[u8]) -> Result<Pdu, Refusal> {
-    let mut words = [0; 17];
-    match ffi::read(input, &mut words) {
-        0 => Ok(pdu_of(&words)),
-        number => Err(refusal_of(number, 0)),
+    match ffi::read(input) {
+        Ok(words) => Ok(pdu_of(&words)),
+        Err(number) => Err(refusal_of(number, 0)),
     }
 }
 

@@ -86,21 +86,16 @@ pub fn pdu_of(w: &PduWords) -> Pdu {
 /// The words of a response.
 #[inline]
 pub fn words_of(response: &Response) -> ResponseWords {
-    let mut words = [0; 10];
-    let mut put = |fields: &[u64]| words[..fields.len()].copy_from_slice(fields);
     match *response {
         Response::NopIn {
             data_segment_length,
             lun,
             itt,
             ttt,
-        } => put(&[
-            0x20,
-            data_segment_length.into(),
-            lun,
-            itt.into(),
-            ttt.into(),
-        ]),
+        } => {
+            let length = data_segment_length.into();
+            [0x20, length, lun, itt.into(), ttt.into(), 0, 0, 0, 0, 0]
+        }
         Response::Scsi {
             overflow,
             underflow,
@@ -110,7 +105,7 @@ pub fn words_of(response: &Response) -> ResponseWords {
             itt,
             snack_tag,
             residual,
-        } => put(&[
+        } => [
             0x21,
             overflow.into(),
             underflow.into(),
@@ -120,8 +115,11 @@ pub fn words_of(response: &Response) -> ResponseWords {
             itt.into(),
             snack_tag.into(),
             residual.into(),
-        ]),
-        Response::TaskManagement { response, itt } => put(&[0x22, response.into(), itt.into()]),
+            0,
+        ],
+        Response::TaskManagement { response, itt } => {
+            [0x22, response.into(), itt.into(), 0, 0, 0, 0, 0, 0, 0]
+        }
         Response::Login {
             csg,
             transit,
@@ -132,7 +130,7 @@ pub fn words_of(response: &Response) -> ResponseWords {
             itt,
             status_class,
             status_detail,
-        } => put(&[
+        } => [
             0x23,
             transit.into(),
             csg.into(),
@@ -143,20 +141,16 @@ pub fn words_of(response: &Response) -> ResponseWords {
             itt.into(),
             status_class.into(),
             status_detail.into(),
-        ]),
+        ],
         Response::Logout {
             response,
             itt,
             time2wait,
             time2retain,
-        } => put(&[
-            0x26,
-            response.into(),
-            itt.into(),
-            time2wait.into(),
-            time2retain.into(),
-        ]),
-        Response::Reject { reason } => put(&[0x3f, reason.into()]),
+        } => {
+            let (wait, retain) = (time2wait.into(), time2retain.into());
+            [0x26, response.into(), itt.into(), wait, retain, 0, 0, 0, 0, 0]
+        }
+        Response::Reject { reason } => [0x3f, reason.into(), 0, 0, 0, 0, 0, 0, 0, 0],
     }
-    words
 }

@@ -27,7 +27,7 @@ returns : tie.Need-returns
 unfolding pduWords pduOf
 returns c =
     let s = c .before .before .before .before .before .before .before .before .before .before .before .before .before .before .before .args .s .now in
-    let lun : (c .before .before .before .before .before .before .before .before .before .before .before .before .be .result * 65536 + c .before .before .before .before .before .before .before .before .before .before .before .be2 .result) * 65536 + c .before .before .before .before .before .before .before .before .before .before .be3 .result ≡ beAt s 8 8 =
+    let lun : c .before .before .before .before .before .before .before .before .before .before .before .before .be .result * 0x1_0000_0000 + c .before .before .before .before .before .before .before .before .before .before .before .be2 .result * 65536 + c .before .before .before .before .before .before .before .before .before .before .be3 .result ≡ beAt s 8 8 =
     omega (arith, be-split s 8 6 2, be-split s 8 4 2, c .before .before .before .before .before .before .before .before .before .before .before .before .be .ensures .0, c .before .before .before .before .before .before .before .before .before .before .before .be2 .ensures .0, c .before .before .before .before .before .before .before .before .before .before .be3 .ensures .0) in
     rw (
       c .before .before .before .before .before .before .before .before .before .own-words .ensures,
@@ -45,9 +45,10 @@ returns c =
 pub words-spec : {M : Type 1} → statement M
 words-spec =
     tie.close (tie.spec
-    (λ c. search needs) (λ c κs. search needs) (λ c. search needs) (λ c κs. search needs) (λ c. search needs)
-    (λ c κs. search needs) own-words-requires (λ c κs. search needs) (λ c κs. search needs) (λ c κs. search needs)
+    (λ c. search needs) (λ c κs. search needs) (λ c κs. search needs) (λ c κs. search needs) (λ c. search needs)
+    (λ c. search needs) own-words-requires (λ c κs. search needs) (λ c κs. search needs) (λ c κs. search needs)
     (λ c. search needs) cast-data-start mul-data-start add-data-start (λ c κs. search needs) (λ c. search needs)
     (λ c κs. search needs) (λ c κs. search needs) (λ c κs. search needs) (λ c. search needs) (λ c. search needs)
-    (λ c κs. search needs) (λ c. search needs) (λ c. search needs) (λ c. search needs) (λ c. search needs)
-    (λ c. search needs) (λ c. search needs) (λ c. search needs) (λ c. search needs) (λ c. search needs) returns)
+    (λ c. search needs) (λ c. search needs) (λ c κs. search needs) (λ c. search needs) (λ c. search needs)
+    (λ c. search needs) (λ c. search needs) (λ c. search needs) (λ c. search needs) (λ c. search needs) (λ c. search needs)
+    (λ c. search needs) returns)
