@@ -254,16 +254,27 @@ pub fn resend(
     Resent::Status(tickets[slot])
 }
 
-// Writes a number into the four bytes from at on, the highest first.
+// The four bytes of a number, the highest first. By value, so that they are written by one wide move.
+fn number_bytes(number: u32) -> [u8; 4]
+    ensures { λ r. ⌜ r ≡ bytesOf 4 number ⌝ }
+{
+    [
+        (number / 256 / 256 / 256 % 256) as u8,
+        (number / 256 / 256 % 256) as u8,
+        (number / 256 % 256) as u8,
+        (number % 256) as u8,
+    ]
+}
+
+// Writes a number into the four bytes from at on.
 fn put_number(h: &mut [u8], at: usize, number: u32)
     requires { ⌜ at + 4 ≤ length (now h) ⌝ }
     ensures { λ _. ⌜ now (h .exit) ≡ sets (now (h .entry)) at (bytesOf 4 number) ⌝ }
 {
-    let mut rest = number;
-    let mut i: usize = 4;
-    while 0 < i {
-        i -= 1;
-        h[at + i] = (rest % 256) as u8;
-        rest = rest / 256;
+    let bytes = number_bytes(number);
+    let mut i: usize = 0;
+    while i < 4 {
+        h[at + i] = bytes[i];
+        i += 1;
     }
 }
