@@ -8,7 +8,9 @@ use crate::value::settle;
 use text::slice::lists;
 use text::slice::same_bytes;
 ghost use mathlib.Core.Path.{_≡_};
+ghost use mathlib.Core.Bool.{true};
 ghost use Prim.Native.Nat.{_≤_, _<_};
+ghost use lib.ListN.{set};
 ghost use Rattle.keys.specs.Table.{kindAt};
 ghost use Rattle.keys.specs.Judge.{goodLength, initiatorName, targetName, sessionType, digest, taskReporting, authMethod, judgeBy, stands, leadingOnly, judgeKey, judgeAfter, settledOf, after};
 
@@ -179,6 +181,14 @@ pub fn judge_pair(
     judge_key(came, stage, leading, ours, k, v)
 }
 
+// Key k came.
+fn mark(seen: &mut [bool; 28], k: usize)
+    requires { ⌜ k < 28 ⌝ }
+    ensures { λ _. ⌜ now (seen .exit) ≡ set (now (seen .entry)) k true ⌝ }
+{
+    seen[k] = true;
+}
+
 // What a judged pair leaves, unless it is refused: its key came, and its value is in force. In place, for it is done for each pair.
 pub fn settle_pair(seen: &mut [bool; 28], values: &mut [u32], k: usize, j: Judgement)
     requires { ⌜ k ≤ 28 ⌝ }
@@ -190,10 +200,10 @@ pub fn settle_pair(seen: &mut [bool; 28], values: &mut [u32], k: usize, j: Judge
     match j {
         Judgement::Refused(_) => {}
         Judgement::Said(_) => {
-            seen[k] = true;
+            mark(seen, k);
         }
         Judgement::Settles(n, _) => {
-            seen[k] = true;
+            mark(seen, k);
             if k < values.len() {
                 values[k] = n;
             }

@@ -16,7 +16,7 @@ use Rattle.header.specs.declared.request.Request.the-variants as R
 use Rattle.login.specs.declared.request.Found.{Found}
 use Rattle.login.specs.declared.request.Found.the-variants as N
 use Rattle.keys.specs.declared.parameters.Settled.{Settled}
-use Rattle.login.specs.Login.{ended, handle, stageAfter, settledLogin, joined, Outcome, refuse, refused, named, startText, requestStep, readStep, loginStep}
+use Rattle.login.specs.Login.{ended, handle, stageAfter, settledLogin, joined, Outcome, refused, named, startText, requestStep, readStep, loginStep}
 use Rattle.login.specs.Block.{Result, stopped, went, judgeBlock, resultOf}
 use Rattle.login.specs.declared.block.Judged.{Judged}
 use Rattle.login.specs.declared.block.Verdict.{Verdict}
@@ -109,28 +109,25 @@ pub record JudgedIn (judged : Bool) (stage : ℕ) (leading : Bool) (ours : List 
 
 -- the Login that a request is, with its data's place
 abbrev pub loginIn : Request → ℕ → ℕ → Found
-loginIn (R.NopOut x) a n = N.Other
-loginIn (R.ScsiCommand x) a n = N.Other
-loginIn (R.TaskManagement x) a n = N.Other
+loginIn (R.NopOut x) a n = N.Refused F.Field
+loginIn (R.ScsiCommand x) a n = N.Refused F.Field
+loginIn (R.TaskManagement x) a n = N.Refused F.Field
 loginIn (R.Login q) a n = N.Login q a n
-loginIn (R.Logout x) a n = N.Other
-loginIn (R.Snack x) a n = N.Other
+loginIn (R.Logout x) a n = N.Refused F.Field
+loginIn (R.Snack x) a n = N.Refused F.Field
 
 -- what is done with it: FIELD for a PDU that is no Login
 abbrev pub foundStep : Found → State → List ℕ → ℕ → ℕ → List ℕ → List ℕ → List ℕ → Outcome
 foundStep (N.Login q a n) l pdu live new ours g t = requestStep l q (take n (drop a pdu)) live new ours g t
-foundStep N.Other l pdu live new ours g t = refuse l 3 g t
 foundStep (N.Refused f) l pdu live new ours g t = record { state = l; answer = refused (number f) (status f); gather = g; text = t }
 
 -- where its data ends
 abbrev pub endOf : Found → ℕ
 endOf (N.Login q a n) = a + n
-endOf N.Other = 0
 endOf (N.Refused f) = 0
 
 abbrev pub isLogin : Found → Bool
 isLogin (N.Login q a n) = true
-isLogin N.Other = false
 isLogin (N.Refused f) = false
 
 pub record ReadAs (pdu : List ℕ) (f : Found) : Type 0 where

@@ -57,40 +57,31 @@ fn request_step(
         let n = append(gather, at, piece);
         return gathered_step(l, q, n);
     }
-    let settled = l.settled;
+    let t = l.settled;
     let at = l.gathered as usize;
     let leading = q.tsih == 0;
-    let j = judge_request(
-        settled,
-        l.judged,
-        q.csg,
-        leading,
-        ours,
-        at,
-        piece,
-        gather,
-        text,
-    );
+    let j = judge_request(t, l.judged, q.csg, leading, ours, at, piece, gather, text);
     finish(l, q, new, j)
 }
 
-// What a PDU is to a login: a Login and where its data lies, another request, or a refusal.
+// What a PDU is to a login: a Login and where its data lies, or a refusal.
 pub enum Found {
     Login(Login, usize, usize),
-    Other,
     Refused(Refusal),
 }
 
+// A request that was read: FIELD where it is no Login.
 fn login_in(r: Request, start: usize, len: usize) -> Found
     ensures { λ f. ⌜ f ≡ loginIn r start len ⌝ }
 {
+    let other = Found::Refused(Refusal::Field);
     match r {
         Request::Login(q) => Found::Login(q, start, len),
-        Request::NopOut(_) => Found::Other,
-        Request::ScsiCommand(_) => Found::Other,
-        Request::TaskManagement(_) => Found::Other,
-        Request::Logout(_) => Found::Other,
-        Request::Snack(_) => Found::Other,
+        Request::NopOut(_) => other,
+        Request::ScsiCommand(_) => other,
+        Request::TaskManagement(_) => other,
+        Request::Logout(_) => other,
+        Request::Snack(_) => other,
     }
 }
 
@@ -139,7 +130,6 @@ pub fn login_request(
     let f = find_login(l.over, gather.len(), text.len(), pdu);
     match f {
         Found::Refused(why) => refuse(l, why),
-        Found::Other => refuse(l, Refusal::Field),
         Found::Login(q, start, len) => {
             let end = start + len;
             request_step(l, q, &pdu[start..end], live, new, ours, gather, text)

@@ -17,18 +17,18 @@ returns-2 c = rw (ne-eqb _ _ (c .before .before .if1 .left), c .enum-told .given
 
 returns-3 : tie.Need-returns-3
 unfolding after
-returns-3 c = rw (ne-eqb _ _ (c .before .before .if1 .left), c .enum-told2 .given .1)
+returns-3 c = rw (ne-eqb _ _ (c .before .before .before .before .if1 .left), c .before .before .enum-told2 .given .1, c .mark .ensures)
 
 returns-4 : tie.Need-returns-4
 unfolding after
-returns-4 c = rw (ne-eqb _ _ (c .before .before .before .before .if1 .left), c .before .before .j .given .1)
+returns-4 c = rw (ne-eqb _ _ (c .before .before .before .before .before .before .if1 .left), c .before .before .before .before .j .given .1, c .before .mark2 .ensures)
 
 returns-5 : tie.Need-returns-5
 unfolding after
-returns-5 c = rw (ne-eqb _ _ (c .before .before .before .before .if1 .left), c .before .before .j .given .1, set-out (now (c .before .before .before .before .before .args .values)) _ _ (c .if2 .left))
+returns-5 c = rw (ne-eqb _ _ (c .before .before .before .before .before .before .if1 .left), c .before .before .before .before .j .given .1, c .before .mark2 .ensures, set-out (now (c .before .before .before .before .before .before .before .before .args .values)) _ _ (c .if2 .left))
 
 pub settle-pair-spec : {M : Type 1} → statement M
 settle-pair-spec =
     tie.close (tie.spec
-    returns (λ c. search needs) (λ c. search needs) (λ c. search needs) (λ c. search needs) (λ c. search needs)
+    returns (λ c. search needs) (λ c. search needs) (λ c κs. search needs) (λ c. search needs) (λ c κs. search needs)
     (λ c. search needs) (λ c. search needs) returns-2 returns-3 (λ c. search needs) returns-4 returns-5)

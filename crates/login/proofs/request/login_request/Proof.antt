@@ -37,12 +37,6 @@ returns c =
 
 returns-2 : tie.Need-returns-2
 returns-2 c =
-    let a = c .before .before .before .before .before .before .before .before .args in
-    rw (c .refuse2 .ensures)
-    (ap (λ (x : Found). foundStep x (a .l) (now (a .pdu)) (a .live) (a .new) (now (a .ours)) (now (a .gather)) (now (a .text))) (sym (c .before .enum-told .given .1)) ∙ c .before .before .before .find-login .ensures .step (a .l) (a .live) (a .new) _ _ _ refl refl refl)
-
-returns-3 : tie.Need-returns-3
-returns-3 c =
     let a = c .before .before .before .before .before .before .before .before .before .before .before .before .before .before .before .before .args in
     rw add-sub-cancel-left at (c .before .before .before .before .request-step .ensures)
     ∙ ap (λ (x : Found). foundStep x (a .l) (now (a .pdu)) (a .live) (a .new) (now (a .ours)) (now (a .gather)) (now (a .text))) (sym (c .before .before .before .before .before .before .before .before .before .f2 .given .1))
@@ -51,6 +45,6 @@ returns-3 c =
 pub login-request-spec : {M : Type 1} → statement M
 login-request-spec =
     tie.close (tie.spec
-    (λ c κs. search needs) (λ c. search needs) (λ c κs. search needs) (λ c. search needs) (λ c κs. search needs)
-    (λ c. search needs) add-end sub-request-step part-request-step-start part-request-step-end request-step-requires
-    returns returns-2 (λ c. search needs) (λ c. search needs) returns-3)
+    (λ c κs. search needs) (λ c. search needs) (λ c κs. search needs) (λ c. search needs) add-end sub-request-step
+    part-request-step-start part-request-step-end request-step-requires returns (λ c. search needs) (λ c. search needs)
+    returns-2)
