@@ -1,17 +1,18 @@
 -- The tables of the code are those of the definitions: each rule is one test, computed over the whole table.
-use mathlib.Core.Path.{_≡_, refl, sym, ap, _∙_}
+use mathlib.Core.Path.{_≡_, refl, sym, ap, _∙_, subst}
 use mathlib.Core.Bool.{Bool, true, false, _&&_, _||_}
 use mathlib.Core.List.{List, [], _∷_, map}
-use Prim.Native.Nat.{ℕ, zero, suc, _+_, _*_, _-_, _<_, _≤_}
-use lib.ListN.{take, drop, getD, length, drop-of-length-le}
-use lib.Seq.{drop-cons}
-use native.Mathlib.Numerals.{add-one}
+use Prim.Native.Nat.{ℕ, zero, suc, _+_, _*_, _-_, _%_, _<_, _≤_}
+use native.Mathlib.Omega.{arith}
+use lib.ListN.{take, drop, getD, length}
 use native.Mathlib.Nat.{not-suc-le-zero, le-of-suc-le-suc}
 use lib.Dec.{leb, ltb, eqb}
-use borrow.Author.Tests.{leb-true, ltb-true, le-ltb, eqb-true, ne-eqb}
+use borrow.Author.Tests.{leb-true, ltb-true, le-ltb, eqb-true, eq-eqb, ne-eqb}
 use Rattle.text.specs.Text.{bytes, same}
 use Rattle.text.proofs.Laws.{below, at, same-eq, &&-left, &&-right, false-true}
-use Rattle.keys.specs.Table.{known, key, nameAt, kindAt, placeIn, row, rows, rowAt}
+use Rattle.text.specs.Text.{pick, all}
+use Rattle.text.specs.Block.{goodName, nameByte}
+use Rattle.keys.specs.Table.{Known, known, key, keyOf, nameAt, kindAt, placeIn, row, rows, rowAt}
 use Rattle.keys.specs.declared.table.Kind.{Kind}
 use Rattle.keys.specs.declared.table.Kind.the-variants as K
 use Rattle.keys.specs.declared.table.Rule.{Rule}
@@ -19,6 +20,9 @@ use Rattle.keys.specs.declared.table.Rule.the-variants as R
 use Rattle.keys.specs.declared.table.Row.{Row}
 
 -- The names.
+abbrev none : Known
+none = key "" K.Refused
+
 abbrev lengths : List ℕ
 lengths = 14 ∷ 17 ∷ 10 ∷ 14 ∷ 19 ∷ 13 ∷ 24 ∷ 14 ∷ 16 ∷ 16 ∷ 18 ∷ 18 ∷ 12 ∷ 10 ∷ 13 ∷ 10 ∷ 13 ∷ 10 ∷ 11 ∷ 14 ∷ 8 ∷ 8 ∷ 9 ∷ 9 ∷ 11 ∷ 13 ∷ 20 ∷ 11 ∷ []
 
@@ -54,23 +58,113 @@ module _ (k : ℕ) (h : k < 28) where
   unfolding right long
   name-length = eqb-true _ _ (&&-right (equal k) (long k) (&&-right (within k) _ (at right 28 names k h)))
 
--- One turn of the search for a name.
-module _ (n : List ℕ) (k : ℕ) (h : k < 28) where
-  fits : k < length known
-  unfolding known
-  fits = h
+-- A name that is known is the name of its key.
+place-go : (t : Bool) (n : List ℕ) (x : Known) (xs : List Known) → same n (x .name) ≡ t → (placeIn n xs < length xs → n ≡ getD xs (placeIn n xs) none .name)
+    → pick t 0 (suc (placeIn n xs)) < suc (length xs) → n ≡ getD (x ∷ xs) (pick t 0 (suc (placeIn n xs))) none .name
+place-go true n x xs e r h = same-eq n (x .name) e
+place-go false n x xs e r h = r (le-of-suc-le-suc h)
 
-  pub place-hit : same n (nameAt k) ≡ true → placeIn n (drop k known) ≡ 0
-  unfolding nameAt
-  place-hit e = rw (drop-cons known k (key "" K.Refused) fits, e)
+place-name : (n : List ℕ) (xs : List Known) → placeIn n xs < length xs → n ≡ getD xs (placeIn n xs) none .name
+place-name n [] h = absurd (not-suc-le-zero h)
+place-name n (x ∷ xs) h = place-go (same n (x .name)) n x xs refl (place-name n xs) h
 
-  pub place-miss : same n (nameAt k) ≡ false → placeIn n (drop k known) ≡ placeIn n (drop (k + 1) known) + 1
-  unfolding nameAt
-  place-miss e = rw (drop-cons known k (key "" K.Refused) fits, e, add-one, add-one)
+pub known-name : (n : List ℕ) → keyOf n < 28 → n ≡ nameAt (keyOf n)
+unfolding keyOf nameAt known
+known-name n h = place-name n known h
 
-pub place-end : (n : List ℕ) (k : ℕ) → 28 ≤ k → placeIn n (drop k known) ≡ 0
-unfolding known
-place-end n k h = rw (drop-of-length-le known h)
+most-go : (t : Bool) (a b : ℕ) → a ≤ b → pick t 0 (suc a) ≤ suc b
+most-go true a b h = omega arith
+most-go false a b h = omega arith
+
+place-most : (n : List ℕ) (xs : List Known) → placeIn n xs ≤ length xs
+place-most n [] = omega arith
+place-most n (x ∷ xs) = most-go (same n (x .name)) (placeIn n xs) (length xs) (place-most n xs)
+
+pub key-most : (n : List ℕ) → keyOf n ≤ 28
+unfolding keyOf known
+key-most n = place-most n known
+
+-- Each name is its key's alone, and the place that its length and two bytes give holds that key.
+abbrev pub places : List ℕ
+places = 28 ∷ 28 ∷ 28 ∷ 16 ∷ 28 ∷ 8 ∷ 11 ∷ 19 ∷ 28 ∷ 27 ∷ 28 ∷ 17 ∷ 28 ∷ 28 ∷ 28 ∷ 24 ∷ 28 ∷ 28 ∷ 28 ∷ 15 ∷ 28 ∷ 13 ∷ 28 ∷ 25 ∷ 18 ∷ 6 ∷ 28 ∷ 14 ∷ 20 ∷ 28 ∷ 28 ∷ 28 ∷ 22 ∷ 7 ∷ 0 ∷ 28 ∷ 28 ∷ 3 ∷ 28 ∷ 28 ∷ 28 ∷ 28 ∷ 28 ∷ 28 ∷ 12 ∷ 9 ∷ 21 ∷ 28 ∷ 28 ∷ 28 ∷ 23 ∷ 26 ∷ 5 ∷ 10 ∷ 28 ∷ 2 ∷ 28 ∷ 4 ∷ 1 ∷ 28 ∷ 28 ∷ 28 ∷ 28 ∷ 28 ∷ []
+
+placed : ℕ → Bool
+placed k = eqb (getD places ((length (nameAt k) * 4 + getD (nameAt k) 0 0 * 3 + getD (nameAt k) 3 0) % 64) 0) k
+
+long-enough : ℕ → Bool
+long-enough k = leb 4 (length (nameAt k)) && leb (length (nameAt k)) 24
+
+alone : ℕ → Bool
+alone k = eqb (keyOf (nameAt k)) k
+
+formed-name : ℕ → Bool
+formed-name k = goodName (nameAt k)
+
+hashed : ℕ → Bool
+hashed k = (placed k && long-enough k) && (alone k && formed-name k)
+
+hashes : below hashed 28 ≡ true
+unfolding hashed placed long-enough alone formed-name nameAt keyOf known same goodName all nameByte
+hashes = refl
+
+few : ℕ → Bool
+few i = leb (getD places i 0) 28
+
+all-few : below few 64 ≡ true
+unfolding few
+all-few = refl
+
+pub place-few : (i : ℕ) → i < 64 → getD places i 0 ≤ 28
+unfolding few
+place-few i h = leb-true _ _ (at few 64 all-few i h)
+
+module _ (k : ℕ) (h : k < 28) where
+  pub place-key : getD places ((length (nameAt k) * 4 + getD (nameAt k) 0 0 * 3 + getD (nameAt k) 3 0) % 64) 0 ≡ k
+  unfolding hashed placed
+  place-key = eqb-true _ _ (&&-left (placed k) (long-enough k) (&&-left _ _ (at hashed 28 hashes k h)))
+
+  long-name : long-enough k ≡ true
+  unfolding hashed
+  long-name = &&-right (placed k) (long-enough k) (&&-left _ _ (at hashed 28 hashes k h))
+
+  pub name-least : 4 ≤ length (nameAt k)
+  unfolding long-enough
+  name-least = leb-true _ _ (&&-left _ _ long-name)
+
+  pub name-most : length (nameAt k) ≤ 24
+  unfolding long-enough
+  name-most = leb-true _ _ (&&-right (leb 4 (length (nameAt k))) _ long-name)
+
+  pub key-alone : keyOf (nameAt k) ≡ k
+  unfolding hashed alone
+  key-alone = eqb-true _ _ (&&-left _ _ (&&-right (placed k && long-enough k) _ (at hashed 28 hashes k h)))
+
+  pub key-formed : goodName (nameAt k) ≡ true
+  unfolding hashed formed-name
+  key-formed = &&-right (alone k) _ (&&-right (placed k && long-enough k) _ (at hashed 28 hashes k h))
+
+same-refl : (n : List ℕ) → same n n ≡ true
+unfolding same
+same-refl [] = refl
+same-refl (x ∷ n) = rw (eq-eqb x x refl) (same-refl n)
+
+-- A name that is known: it has the bytes of its key's name, a good form, and its key in its place.
+module _ (n : List ℕ) (p : keyOf n < 28) where
+  pub known-same : same n (nameAt (keyOf n)) ≡ true
+  known-same = ap (same n) (sym (known-name n p)) ∙ same-refl n
+
+  pub known-long : (4 ≤ length n) × (length n ≤ 24)
+  known-long = let e : length n ≡ length (nameAt (keyOf n)) = ap length (known-name n p) in (omega (arith, e, name-least (keyOf n) p), omega (arith, e, name-most (keyOf n) p))
+
+  pub known-place : getD places ((length n * 4 + getD n 0 0 * 3 + getD n 3 0) % 64) 0 ≡ keyOf n
+  known-place = subst (λ (m : List ℕ). getD places ((length m * 4 + getD m 0 0 * 3 + getD m 3 0) % 64) 0 ≡ keyOf n) (sym (known-name n p)) (place-key (keyOf n) p)
+
+pub unknown : (n : List ℕ) → (keyOf n < 28 → ⊥) → 28 ≡ keyOf n
+unknown n h = omega (arith, key-most n, h)
+
+-- A known key's name has a good form.
+pub known-formed : (n : List ℕ) → keyOf n < 28 → goodName n ≡ true
+known-formed n p = subst (λ (m : List ℕ). goodName m ≡ true) (sym (known-name n p)) (key-formed (keyOf n) p)
 
 -- The columns are the fields of the rows.
 column : {A B : Type 0} (f : A → B) (l : List A) (k : ℕ) (d : B) (e : A) → k < length l → getD (map f l) k d ≡ f (getD l k e)

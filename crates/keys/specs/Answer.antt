@@ -1,13 +1,16 @@
 -- The answer to a judged pair, in bytes.
-use Prim.Native.Nat.{ℕ}
+use Prim.Native.Nat.{ℕ, _-_}
 use mathlib.Core.Bool.{Bool, true, false}
 use mathlib.Core.List.{List, [], _∷_, _++_}
+use lib.ListN.{take, drop}
 use Rattle.text.specs.Text.{pick, bytes}
 use Rattle.text.specs.Number.{decimal}
 use Rattle.keys.specs.declared.value.Reply.{Reply}
 use Rattle.keys.specs.declared.value.Reply.the-variants as A
 use Rattle.keys.specs.declared.value.Judgement.{Judgement}
 use Rattle.keys.specs.declared.value.Judgement.the-variants as J
+use Rattle.keys.specs.declared.answer.Said.{Said}
+use Rattle.keys.specs.declared.answer.Said.the-variants as S
 
 -- numbers in decimal
 unfoldable pub replyBytes : Reply → List ℕ
@@ -31,8 +34,11 @@ isSilent A.Rfc3720 = false
 isSilent (A.Number n) = false
 
 -- the name, =, the reply and a zero byte; good declarations get no answer
+abbrev pub answerFrom : List ℕ → Reply → List ℕ
+answerFrom start r = pick (isSilent r) [] ((start ++ replyBytes r) ++ (0 ∷ []))
+
 unfoldable pub answerText : List ℕ → Reply → List ℕ
-answerText n r = pick (isSilent r) [] (((n ++ (61 ∷ [])) ++ replyBytes r) ++ (0 ∷ []))
+answerText n r = answerFrom (n ++ (61 ∷ [])) r
 
 -- a refused pair gets none
 abbrev pub replyIn : Judgement → Reply
@@ -42,3 +48,21 @@ replyIn (J.Settles x r) = r
 
 abbrev pub saidText : List ℕ → Judgement → List ℕ
 saidText n j = answerText n (replyIn j)
+
+-- The code's replies, each with its zero byte: a number, or a part of the words.
+abbrev pub saidOf : Reply → Said
+saidOf A.Silent = S.Word 0 0
+saidOf A.Reject = S.Word 0 7
+saidOf A.NotUnderstood = S.Word 7 21
+saidOf A.Yes = S.Word 21 25
+saidOf A.No = S.Word 25 28
+saidOf A.None = S.Word 28 33
+saidOf A.Rfc3720 = S.Word 33 41
+saidOf (A.Number n) = S.Number n
+
+abbrev pub words : List ℕ
+words = bytes "Reject\0NotUnderstood\0Yes\0No\0None\0RFC3720\0"
+
+abbrev pub saidBytes : Said → List ℕ
+saidBytes (S.Number n) = decimal 10 n ++ (0 ∷ [])
+saidBytes (S.Word a e) = take (e - a) (drop a words)

@@ -93,9 +93,16 @@ judgeKey seen stage leading ours k v =
     (pick seen (J.Refused 0x0200)
     (judgeBy (kindAt k) k ours v)))
 
--- a pair of key k; other keys (28) are NotUnderstood
+-- a pair of key k, after these keys came; other keys (28) are NotUnderstood
+abbrev pub judgeAfter : List Bool → ℕ → Bool → List ℕ → ℕ → List ℕ → Judgement
+judgeAfter seen stage leading ours k v = pick (eqb k 28) (J.Said A.NotUnderstood) (judgeKey (getD seen k false) stage leading ours k v)
+
 unfoldable pub judgeAt : Settled → ℕ → Bool → List ℕ → ℕ → List ℕ → Judgement
-judgeAt s stage leading ours k v = pick (eqb k 28) (J.Said A.NotUnderstood) (judgeKey (getD (s .seen) k false) stage leading ours k v)
+judgeAt s stage leading ours k v = judgeAfter (s .seen) stage leading ours k v
+
+-- these keys came, and these values are in force
+abbrev pub settledOf : List Bool → List ℕ → Settled
+settledOf seen values = record { seen = seen; parameters = record { values = values } }
 
 -- key k came
 abbrev pub marked : Settled → ℕ → Settled

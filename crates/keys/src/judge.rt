@@ -1,5 +1,4 @@
 // One pair of a block, judged: wrong stage, leading login only and twice come before its value.
-use crate::parameters::Settled;
 use crate::table::KNOWN;
 use crate::table::Kind;
 use crate::table::kind_of;
@@ -9,9 +8,11 @@ use crate::value::settle;
 use text::slice::lists;
 use text::slice::same_bytes;
 ghost use mathlib.Core.Path.{_≡_};
+ghost use mathlib.Core.Bool.{true};
 ghost use Prim.Native.Nat.{_≤_, _<_};
+ghost use lib.ListN.{set};
 ghost use Rattle.keys.specs.Table.{kindAt};
-ghost use Rattle.keys.specs.Judge.{goodLength, initiatorName, targetName, sessionType, digest, taskReporting, authMethod, judgeBy, stands, leadingOnly, judgeKey, judgeAt, marked, after};
+ghost use Rattle.keys.specs.Judge.{goodLength, initiatorName, targetName, sessionType, digest, taskReporting, authMethod, judgeBy, stands, leadingOnly, judgeKey, judgeAfter, settledOf, after};
 
 // InitiatorName and TargetName have 1 to 223 bytes.
 fn length_good(v: &[u8]) -> bool
@@ -161,9 +162,9 @@ fn judge_key(seen: bool, stage: u8, leading: bool, ours: &[u8], k: usize, v: &[u
     judge_value(kind, k, ours, v)
 }
 
-// A pair whose name is key k's, KNOWN for a name that is not known.
+// A pair whose name is key k's, KNOWN for a name that is not known, after these keys came.
 pub fn judge_pair(
-    s: Settled,
+    seen: &[bool; 28],
     stage: u8,
     leading: bool,
     ours: &[u8],
@@ -171,44 +172,40 @@ pub fn judge_pair(
     v: &[u8],
 ) -> Judgement
     requires { ⌜ k ≤ 28 ⌝ }
-    ensures { λ r. ⌜ r ≡ judgeAt s stage leading (now (ours .entry)) k (now (v .entry)) ⌝ }
+    ensures { λ r. ⌜ r ≡ judgeAfter (now (seen .entry)) stage leading (now (ours .entry)) k (now (v .entry)) ⌝ }
 {
     if k == KNOWN {
         return Judgement::Said(Reply::NotUnderstood);
     }
-    let seen = s.seen[k];
-    judge_key(seen, stage, leading, ours, k, v)
+    let came = seen[k];
+    judge_key(came, stage, leading, ours, k, v)
 }
 
-// Key k came, and was not refused.
-fn mark(s: Settled, k: usize) -> Settled
+// Key k came.
+fn mark(seen: &mut [bool; 28], k: usize)
     requires { ⌜ k < 28 ⌝ }
-    ensures { λ r. ⌜ r ≡ marked s k ⌝ }
+    ensures { λ _. ⌜ now (seen .exit) ≡ set (now (seen .entry)) k true ⌝ }
 {
-    let mut t = s;
-    t.seen[k] = true;
-    t
+    seen[k] = true;
 }
 
-// What is settled after a pair was judged.
-pub fn settled_after(s: Settled, k: usize, j: Judgement) -> Settled
+// What a judged pair leaves, unless it is refused: its key came, and its value is in force. In place, for it is done for each pair.
+pub fn settle_pair(seen: &mut [bool; 28], values: &mut [u32], k: usize, j: Judgement)
     requires { ⌜ k ≤ 28 ⌝ }
-    ensures { λ r. ⌜ r ≡ after s k j ⌝ }
+    ensures { λ _. ⌜ settledOf (now (seen .exit)) (now (values .exit)) ≡ after (settledOf (now (seen .entry)) (now (values .entry))) k j ⌝ }
 {
     if k == KNOWN {
-        return s;
+        return;
     }
-    let t = mark(s, k);
     match j {
-        Judgement::Refused(_) => s,
-        Judgement::Said(_) => t,
+        Judgement::Refused(_) => {}
+        Judgement::Said(_) => {
+            mark(seen, k);
+        }
         Judgement::Settles(n, _) => {
-            let p = t.parameters;
-            let q = p.with(k, n);
-            let seen = t.seen;
-            Settled {
-                seen,
-                parameters: q,
+            mark(seen, k);
+            if k < values.len() {
+                values[k] = n;
             }
         }
     }

@@ -1,8 +1,7 @@
 // The settled parameters: one value for each of the twelve keys of the table. Yes is 1, No is 0.
 ghost use mathlib.Core.Path.{_≡_};
-ghost use lib.ListN.{set};
 ghost use Rattle.keys.specs.Table.{standards, own};
-ghost use Rattle.keys.specs.Settle.{valued, noneSeen};
+ghost use Rattle.keys.specs.Settle.{noneSeen};
 
 pub const MAX_CONNECTIONS: usize = 0;
 
@@ -51,26 +50,6 @@ impl Parameters {
     {
         Self { values: Self::OURS }
     }
-
-    // The same with the value n for key k of the table.
-    pub fn with(self, k: usize, n: u32) -> Self
-        ensures { λ r. ⌜ r ≡ valued self k n ⌝ }
-    {
-        let old = self.values;
-        let values = value_set(old, k, n);
-        Self { values }
-    }
-}
-
-fn value_set(values: [u32; 12], k: usize, n: u32) -> [u32; 12]
-    ensures { λ r. ⌜ r ≡ set values k n ⌝ }
-{
-    let mut v = values;
-    if k < 12 {
-        v[k] = n;
-        return v;
-    }
-    v
 }
 
 // What a login has settled: which known keys came, and the parameters in force.

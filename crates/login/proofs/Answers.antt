@@ -1,24 +1,30 @@
 -- What the code's answer on a block says, of the text output.
-use mathlib.Core.Path.{_≡_, refl, sym, ap, _∙_}
-use mathlib.Core.Bool.{Bool, true, false, not, _&&_}
+use mathlib.Core.Path.{_≡_, refl, sym, ap, _∙_, subst}
+use mathlib.Core.Bool.{Bool, true, false, not, _&&_, _||_}
+use borrow.Author.Tests.{ltb-false}
 use mathlib.Core.List.{List, _++_}
-use Prim.Native.Nat.{ℕ, _≤_}
+use Prim.Native.Nat.{ℕ, _+_, _≤_}
 use native.Mathlib.Omega.{arith}
 use lib.ListN.{length, drop, take}
 use lib.Seq.{take-at, length-take-le}
 use Rattle.header.specs.declared.request.Login.{Login}
 use Rattle.keys.specs.declared.parameters.Settled.{Settled}
-use Rattle.login.specs.Login.{startText, answerOf, isRefused, gatherAfter, withGather, settledLogin, Outcome, Texted, accept, kindStep}
-use Rattle.login.specs.Code.{acceptStep, loginIn, foundStep}
-use Rattle.login.specs.Block.{judge, JudgedAs}
+use Rattle.login.specs.Login.{startText, answerOf, named, joined, withGather, failText, finish, textStep, judgeStep, Outcome, Texted, accept, kindStep, loginStep}
+use Rattle.login.specs.Code.{finishStep, withNames, blockResult, verdictAfter, textAfter, textOf, Written, undone, judgedBlock, judgedArea, areaOf, JudgedIn, loginIn, foundStep, endOf, ReadAs, FoundAs}
+use Rattle.login.specs.Block.{judge, Result, stopped, went, resultOf, countOf, JudgedAs}
 use Rattle.login.specs.declared.state.State.{State}
 use Rattle.login.specs.declared.block.Verdict.{Verdict}
-use Rattle.text.specs.Block.{pairs}
+use Rattle.login.specs.declared.block.Verdict.the-variants as D
+use Rattle.login.specs.declared.block.Judged.{Judged}
+use Rattle.login.specs.declared.request.Found.{Found}
+use Rattle.login.specs.declared.request.Found.the-variants as N
+use Rattle.text.specs.Block.{formed, pairs}
 use Rattle.text.specs.Text.{pick}
-use Rattle.text.proofs.Laws.{past, here}
+use Rattle.text.proofs.Laws.{past, here, false-true}
 use Rattle.header.specs.Refusal.{number, status}
 use Rattle.header.specs.Request as Read
-use Rattle.header.specs.Request.{readPdu, judged, known, opcodeOf, dataLengthOf, statedLength, sharedOk, ruleOk, pduOf}
+use Rattle.header.specs.Request.{readPdu, limits, judged, known, opcodeOf, dataLengthOf, statedLength, sharedOk, ruleOk, pduOf, dataOf}
+use Rattle.header.proofs.Reading.{got-data}
 use Rattle.header.specs.declared.refusal.Refusal.{Refusal}
 use Rattle.header.specs.declared.refusal.Refusal.the-variants as F
 use Rattle.header.specs.declared.request.Pdu.{Pdu}
@@ -26,8 +32,6 @@ use Rattle.header.specs.declared.request.Request.{Request}
 use Rattle.header.specs.declared.request.Request.the-variants as R
 use Rattle.header.specs.declared.request.Limits.{Limits}
 use Rattle.header.specs.declared.request.ReadAnswer.the-variants as G
-use Rattle.login.specs.declared.state.Answer.{Answer}
-use Rattle.login.specs.declared.state.Answer.the-variants as W
 use lib.Dec.{eqb, ltb}
 
 pub start-length : (b : Bool) → length (startText b) ≤ 23
@@ -35,39 +39,93 @@ unfolding startText
 start-length true = omega arith
 start-length false = omega arith
 
--- the first n bytes of o, put at the front of the text output, are the answer's text
-pub accept-is : (q : Login) (new : ℕ) (s : Settled) (o t p : List ℕ) (n : ℕ) → n ≤ length o → p ≡ take n o ++ drop (length (take n o)) t
-    → _≡_ {A = Texted} (record { state = settledLogin q s; answer = answerOf (acceptStep q new s n .answer) p; text = p }) (accept q new s (take n o) t)
-accept-is q new s o t p n h e =
-    let a : take n p ≡ take n o = ap (take n) e ∙ take-at (take n o) (drop (length (take n o)) t) n (length-take-le n o h) in
-    rw (a, e)
+-- What the verdict on a judged block says, of the text output.
+module _ (s : Settled) (n : ℕ) (o t : List ℕ) (h : n ≤ length o) where
+  text-front : take n (take n o ++ drop (length (take n o)) t) ≡ take n o
+  text-front = take-at (take n o) (drop (length (take n o)) t) n (length-take-le n o h)
 
--- what judging the block b of a request gave
-abbrev pub OfBlock : State → Login → List ℕ → List ℕ → Settled → Verdict → List ℕ → Type 0
-OfBlock l q ours b = JudgedAs (judge (q .csg) (eqb (q .tsih) 0) ours (l .settled) (startText (l .judged)) (pairs 64 b))
+  named-go : (j m : Bool) → named s ≡ m
+      → Written (pick (not j && not (named s)) (stopped 0x0207) (went s (take n o))) s (pick (j || m) (D.Answered n) (D.Refused 0x0207)) t (textAfter (pick (j || m) (D.Answered n) (D.Refused 0x0207)) o t)
+  named-go true m e = record { result = ap (went s) text-front; text = refl }
+  named-go false true e = rw e (record { result = ap (went s) text-front; text = refl })
+  named-go false false e = rw e (record { result = refl; text = refl })
 
--- The gather area beside the answer on a block.
-gather-after : (a : Answer) (p g h : List ℕ) → gatherAfter (answerOf a p) g h ≡ pick (isRefused a) g h
-gather-after (W.Refused f) p g h = refl
-gather-after (W.Accepted x) p g h = refl
+written-go : (judged : Bool) (s : Settled) (v : Verdict) (o t : List ℕ) → countOf v ≤ length o
+    → Written (withNames judged (resultOf v s o)) s (verdictAfter (judged || named s) v) t (textAfter (verdictAfter (judged || named s) v) o t)
+written-go judged s (D.Refused x) o t h = record { result = refl; text = refl }
+written-go judged s (D.Answered n) o t h = named-go s n o t h judged (named s) refl
 
-module _ (s : State) (a : Answer) (p g h new : List ℕ) (x : Texted) (e : _≡_ {A = Texted} (record { state = s; answer = answerOf a p; text = p }) x) where
-  whole : new ≡ pick (isRefused a) g h → _≡_ {A = Outcome} (record { state = s; answer = answerOf a p; gather = new; text = p }) (withGather g h x)
-  whole q = rw (← e, gather-after a p g h, q)
+pub written-is : (judged : Bool) (s : Settled) (v : Verdict) (o t : List ℕ) (r : Result) → JudgedAs r s v o
+    → Written (withNames judged r) s (verdictAfter (judged || named s) v) t (textAfter (verdictAfter (judged || named s) v) o t)
+written-is judged s v o t r j = subst (λ (x : Result). Written (withNames judged x) s (verdictAfter (judged || named s) v) t (textAfter (verdictAfter (judged || named s) v) o t)) (j .result) (written-go judged s v o t (j .few))
 
-  pub outcome-refused : isRefused a ≡ true → new ≡ g → _≡_ {A = Outcome} (record { state = s; answer = answerOf a p; gather = new; text = p }) (withGather g h x)
-  outcome-refused r q = whole (q ∙ sym (here _ g h r))
+-- The gather area beside it.
+pub area-is : (s : Settled) (v : Verdict) (t t' g h k : List ℕ) (at : ℕ) (r : Result) → Written r s v t t' → joined h at k ≡ g → undone v h at k ≡ areaOf r g h
+area-is s (D.Refused x) t t' g h k at r w e = e ∙ ap (λ (y : Result). areaOf y g h) (w .result)
+area-is s (D.Answered n) t t' g h k at r w e = ap (λ (y : Result). areaOf y g h) (w .result)
 
-  pub outcome-answered : isRefused a ≡ false → new ≡ h → _≡_ {A = Outcome} (record { state = s; answer = answerOf a p; gather = new; text = p }) (withGather g h x)
-  outcome-answered r q = whole (q ∙ sym (past _ g h h r refl))
+area-either : (r : Result) (g : List ℕ) → g ≡ areaOf r g g
+area-either (stopped s) g = refl
+area-either (went s a) g = refl
 
-either-way : (b : Bool) (g : List ℕ) → g ≡ pick b g g
-either-way true g = refl
-either-way false g = refl
+-- nothing was gathered
+pub judged-own : (judged : Bool) (stage : ℕ) (leading : Bool) (ours : List ℕ) (s : Settled) (n : ℕ) (d : List ℕ) (j : Judged) (g t t' : List ℕ) → eqb n 0 ≡ true
+    → Written (blockResult judged stage leading ours s d) (j .settled) (j .verdict) t t' → JudgedIn judged stage leading ours s n d j g t g t'
+judged-own judged stage leading ours s n d j g t t' e w = record { written = rw e w; area = rw e (area-either (blockResult judged stage leading ours s d) g) }
 
-pub outcome-kept : (s : State) (a : Answer) (p g : List ℕ) (x : Texted) → _≡_ {A = Texted} (record { state = s; answer = answerOf a p; text = p }) x
-    → _≡_ {A = Outcome} (record { state = s; answer = answerOf a p; gather = g; text = p }) (withGather g g x)
-outcome-kept s a p g x e = whole s a p g g g x e (either-way (isRefused a) g)
+-- something was
+pub judged-joined : (judged : Bool) (stage : ℕ) (leading : Bool) (ours : List ℕ) (s : Settled) (n : ℕ) (d : List ℕ) (j : Judged) (g t g' t' : List ℕ) → eqb n 0 ≡ false
+    → Written (blockResult judged stage leading ours s (take n g ++ d)) (j .settled) (j .verdict) t t' → g' ≡ areaOf (blockResult judged stage leading ours s (take n g ++ d)) g (joined g n d)
+    → JudgedIn judged stage leading ours s n d j g t g' t'
+judged-joined judged stage leading ours s n d j g t g' t' e w a = record { written = rw e w; area = rw e a }
+
+-- The step that a result is.
+abbrev resultStep : State → Login → ℕ → List ℕ → Result → Texted
+resultStep l q new t (stopped s) = failText l s t
+resultStep l q new t (went s a) = accept q new s a t
+
+named-step : (l : State) (q : Login) (new : ℕ) (t : List ℕ) (s : Settled) (a : List ℕ) (b : Bool) → resultStep l q new t (pick b (stopped 0x0207) (went s a)) ≡ pick b (failText l 0x0207 t) (accept q new s a t)
+named-step l q new t s a true = refl
+named-step l q new t s a false = refl
+
+finish-is : (l : State) (q : Login) (new : ℕ) (t : List ℕ) (r : Result) → resultStep l q new t (withNames (l .judged) r) ≡ finish l q new t r
+finish-is l q new t (stopped s) = refl
+finish-is l q new t (went s a) = named-step l q new t s a (not (l .judged) && not (named s))
+
+form-step : (l : State) (q : Login) (new : ℕ) (t : List ℕ) (r : Result) (b : Bool) → resultStep l q new t (withNames (l .judged) (pick b r (stopped 0x0200))) ≡ pick b (finish l q new t r) (failText l 0x0200 t)
+form-step l q new t r true = finish-is l q new t r
+form-step l q new t r false = refl
+
+text-step : (l : State) (q : Login) (new : ℕ) (ours b t : List ℕ) → resultStep l q new t (blockResult (l .judged) (q .csg) (eqb (q .tsih) 0) ours (l .settled) b) ≡ textStep l q new ours b t
+unfolding blockResult textStep
+text-step l q new ours b t = form-step l q new t (judge (q .csg) (eqb (q .tsih) 0) ours (l .settled) (startText (l .judged)) (pairs 64 b)) (formed 64 b)
+
+area-step : (l : State) (q : Login) (new : ℕ) (ours d g t : List ℕ) (b : Bool)
+    → withGather g (pick b g (joined g (l .gathered) d)) (textStep l q new ours (pick b d (take (l .gathered) g ++ d)) t)
+    ≡ pick b (withGather g g (textStep l q new ours d t)) (withGather g (joined g (l .gathered) d) (textStep l q new ours (take (l .gathered) g ++ d) t))
+area-step l q new ours d g t true = refl
+area-step l q new ours d g t false = refl
+
+step-go : (l : State) (q : Login) (new : ℕ) (s : Settled) (v : Verdict) (t t' g h : List ℕ) → t' ≡ textOf (resultOf v s t') t
+    → _≡_ {A = Outcome} (record { state = finishStep l q new s v .state; answer = answerOf (finishStep l q new s v .answer) t'; gather = areaOf (resultOf v s t') g h; text = t' }) (withGather g h (resultStep l q new t (resultOf v s t')))
+step-go l q new s (D.Refused x) t t' g h e = rw (← e)
+step-go l q new s (D.Answered n) t t' g h e = rw (← e)
+
+-- a judged block, answered, is the step of the rules
+pub judged-is : (l : State) (q : Login) (new : ℕ) (ours d : List ℕ) (j : Judged) (g t g' t' : List ℕ) → JudgedIn (l .judged) (q .csg) (eqb (q .tsih) 0) ours (l .settled) (l .gathered) d j g t g' t'
+    → _≡_ {A = Outcome} (record { state = finishStep l q new (j .settled) (j .verdict) .state; answer = answerOf (finishStep l q new (j .settled) (j .verdict) .answer) t'; gather = g'; text = t' }) (judgeStep l q new ours d g t)
+unfolding judgeStep
+judged-is l q new ours d j g t g' t' x =
+    let b = judgedBlock (l .gathered) d g in
+    let h = judgedArea (l .gathered) d g in
+    let r = blockResult (l .judged) (q .csg) (eqb (q .tsih) 0) ours (l .settled) b in
+    let w = x .written in
+    let e : t' ≡ textOf (resultOf (j .verdict) (j .settled) t') t = w .text ∙ ap (λ (y : Result). textOf y t) (sym (w .result)) in
+    let k : g' ≡ areaOf (resultOf (j .verdict) (j .settled) t') g h = x .area ∙ ap (λ (y : Result). areaOf y g h) (sym (w .result)) in
+    rw k (step-go l q new (j .settled) (j .verdict) t t' g h e)
+    ∙ ap (λ (y : Result). withGather g h (resultStep l q new t y)) (w .result)
+    ∙ ap (withGather g h) (text-step l q new ours b t)
+    ∙ area-step l q new ours d g t (eqb (l .gathered) 0)
 
 -- A refusal of reading has no status: its number is not 6.
 reading-go : (b1 b2 b3 b4 b5 : Bool) (p : Pdu) → pick b1 (Read.refused 4) (pick b2 (Read.refused 2) (pick b3 (Read.refused 5) (pick b4 (Read.refused 4) (pick b5 (Read.got p) (Read.refused 3))))) ≡ Read.refused 6 → ⊥
@@ -102,10 +160,61 @@ pub reading-status : (m : Limits) (s : List ℕ) (f : Refusal) → Read.answerOf
 reading-status m s f e = status-go m s f (sym e)
 
 -- What is done with the Login that was found is what is done with the request.
-pub found-is : (r : Request) (l : State) (d : List ℕ) (live new : ℕ) (ours g t : List ℕ) → foundStep (loginIn r) l d live new ours g t ≡ kindStep r l d live new ours g t
-found-is (R.NopOut x) l d live new ours g t = refl
-found-is (R.ScsiCommand x) l d live new ours g t = refl
-found-is (R.TaskManagement x) l d live new ours g t = refl
-found-is (R.Login q) l d live new ours g t = refl
-found-is (R.Logout x) l d live new ours g t = refl
-found-is (R.Snack x) l d live new ours g t = refl
+pub found-is : (r : Request) (a n : ℕ) (l : State) (pdu : List ℕ) (live new : ℕ) (ours g t : List ℕ) → foundStep (loginIn r a n) l pdu live new ours g t ≡ kindStep r l (take n (drop a pdu)) live new ours g t
+found-is (R.NopOut x) a n l pdu live new ours g t = refl
+found-is (R.ScsiCommand x) a n l pdu live new ours g t = refl
+found-is (R.TaskManagement x) a n l pdu live new ours g t = refl
+found-is (R.Login q) a n l pdu live new ours g t = refl
+found-is (R.Logout x) a n l pdu live new ours g t = refl
+found-is (R.Snack x) a n l pdu live new ours g t = refl
+
+pub found-end : (r : Request) (a n k : ℕ) → a + n ≤ k → endOf (loginIn r a n) ≤ k
+found-end (R.NopOut x) a n k h = omega arith
+found-end (R.ScsiCommand x) a n k h = omega arith
+found-end (R.TaskManagement x) a n k h = omega arith
+found-end (R.Login q) a n k h = h
+found-end (R.Logout x) a n k h = omega arith
+found-end (R.Snack x) a n k h = omega arith
+
+-- what a PDU that was read is to a login
+pub read-got : (pdu : List ℕ) (p : Pdu) → Read.answerOf (G.Got p) ≡ readPdu limits pdu → ReadAs pdu (loginIn (p .request) (p .«data_start») (p .«data_segment_length»))
+unfolding dataOf
+read-got pdu p e = record {
+  step = λ l live new ours g t. rw (← e) (found-is (p .request) (p .«data_start») (p .«data_segment_length») l pdu live new ours g t);
+  inside = found-end (p .request) _ _ _ (got-data limits pdu p (sym e));
+}
+
+pub read-refused : (pdu : List ℕ) (f : Refusal) → Read.answerOf (G.Refused f) ≡ readPdu limits pdu → ReadAs pdu (N.Refused f)
+read-refused pdu f e = record { step = λ l live new ours g t. rw (← e, reading-status limits pdu f e); inside = omega arith }
+
+-- and to one that is over or not, with these areas
+module _ (over : Bool) (gather text : ℕ) (pdu : List ℕ) where
+  pub found-gather : ltb gather 8192 ≡ true → FoundAs over gather text pdu (N.Refused F.Buffer)
+  unfolding loginStep
+  found-gather a = record { step = λ l live new ours g t e m n. sym (here (ltb (length g) 8192) _ _ (ap (λ (x : ℕ). ltb x 8192) m ∙ a)); inside = omega arith; areas = λ q. false-true q }
+
+  module _ (a : ltb gather 8192 ≡ false) where
+    pub found-text : ltb text 8192 ≡ true → FoundAs over gather text pdu (N.Refused F.Buffer)
+    unfolding loginStep
+    found-text b = record {
+      step = λ l live new ours g t e m n. sym (past (ltb (length g) 8192) _ _ _ (ap (λ (x : ℕ). ltb x 8192) m ∙ a) (here (ltb (length t) 8192) _ _ (ap (λ (x : ℕ). ltb x 8192) n ∙ b)));
+      inside = omega arith;
+      areas = λ q. false-true q;
+    }
+
+    module _ (b : ltb text 8192 ≡ false) where
+      pub found-closed : over ≡ true → FoundAs over gather text pdu (N.Refused F.Closed)
+      unfolding loginStep
+      found-closed c = record {
+        step = λ l live new ours g t e m n. sym (past (ltb (length g) 8192) _ _ _ (ap (λ (x : ℕ). ltb x 8192) m ∙ a) (past (ltb (length t) 8192) _ _ _ (ap (λ (x : ℕ). ltb x 8192) n ∙ b) (here (l .over) _ _ (e ∙ c))));
+        inside = omega arith;
+        areas = λ q. false-true q;
+      }
+
+      pub found-read : over ≡ false → (f : Found) → ReadAs pdu f → FoundAs over gather text pdu f
+      unfolding loginStep
+      found-read c f r = record {
+        step = λ l live new ours g t e m n. r .step l live new ours g t ∙ sym (past (ltb (length g) 8192) _ _ _ (ap (λ (x : ℕ). ltb x 8192) m ∙ a) (past (ltb (length t) 8192) _ _ _ (ap (λ (x : ℕ). ltb x 8192) n ∙ b) (past (l .over) _ _ _ (e ∙ c) refl)));
+        inside = r .inside;
+        areas = λ q. (ltb-false _ _ a, ltb-false _ _ b);
+      }

@@ -1,9 +1,12 @@
 -- What the code's answers hold, for the functions below the whole step.
 use Prim.Native.Nat.{ℕ, _+_, _≤_}
-use mathlib.Core.Bool.{Bool, true, false}
+use mathlib.Core.Bool.{Bool, true, false, not, _&&_}
 use mathlib.Core.Path.{_≡_}
-use mathlib.Core.List.{List}
-use lib.ListN.{length, take, drop}
+use mathlib.Core.List.{List, _++_}
+use lib.ListN.{length, getD, take, drop}
+use lib.Dec.{eqb}
+use Rattle.header.specs.Refusal.{number, status}
+use Rattle.header.specs.Request.{readPdu, limits}
 use Rattle.text.specs.Text.{pick}
 use Rattle.header.specs.declared.refusal.Refusal.{Refusal}
 use Rattle.header.specs.declared.refusal.Refusal.the-variants as F
@@ -13,7 +16,11 @@ use Rattle.header.specs.declared.request.Request.the-variants as R
 use Rattle.login.specs.declared.request.Found.{Found}
 use Rattle.login.specs.declared.request.Found.the-variants as N
 use Rattle.keys.specs.declared.parameters.Settled.{Settled}
-use Rattle.login.specs.Login.{ended, handle, stageAfter, settledLogin, joined, Outcome, refuse, requestStep}
+use Rattle.login.specs.Login.{ended, handle, stageAfter, settledLogin, joined, Outcome, refused, named, startText, requestStep, readStep, loginStep}
+use Rattle.login.specs.Block.{Result, stopped, went, judgeBlock, resultOf}
+use Rattle.login.specs.declared.block.Judged.{Judged}
+use Rattle.login.specs.declared.block.Verdict.{Verdict}
+use Rattle.login.specs.declared.block.Verdict.the-variants as D
 use Rattle.login.specs.declared.state.State.{State}
 use Rattle.login.specs.declared.state.Step.{Step}
 use Rattle.login.specs.declared.state.Answer.the-variants as W
@@ -42,15 +49,92 @@ pub record Joined (g : List ℕ) (at : ℕ) (d new kept : List ℕ) (r : ℕ) : 
   pub area : new ≡ joined g at d
   pub old : take (length d) kept ≡ take (length d) (drop at g)
 
--- the Login that a request is; FIELD where it is none
-abbrev pub loginIn : Request → Found
-loginIn (R.NopOut x) = N.Other
-loginIn (R.ScsiCommand x) = N.Other
-loginIn (R.TaskManagement x) = N.Other
-loginIn (R.Login q) = N.Login q
-loginIn (R.Logout x) = N.Other
-loginIn (R.Snack x) = N.Other
+-- the login after a judged block, and the answer
+abbrev pub finishStep : State → Login → ℕ → Settled → Verdict → Step
+finishStep l q new s (D.Refused status) = endStep l status
+finishStep l q new s (D.Answered n) = acceptStep q new s n
 
+-- ---- a judged block
+
+abbrev pub bothSeen : List Bool → Bool
+bothSeen seen = getD seen 16 false && getD seen 17 false
+
+-- if the first judged block lacks either name it is 0x0207, after its pairs
+abbrev pub withNames : Bool → Result → Result
+withNames judged (stopped s) = stopped s
+withNames judged (went s a) = pick (not judged && not (named s)) (stopped 0x0207) (went s a)
+
+unfoldable pub blockResult : Bool → ℕ → Bool → List ℕ → Settled → List ℕ → Result
+blockResult judged stage leading ours s b = withNames judged (judgeBlock stage leading ours s (startText judged) b)
+
+abbrev pub verdictAfter : Bool → Verdict → Verdict
+verdictAfter named (D.Refused s) = D.Refused s
+verdictAfter named (D.Answered n) = pick named (D.Answered n) (D.Refused 0x0207)
+
+-- the text output t after a verdict on the answer o
+abbrev pub textAfter : Verdict → List ℕ → List ℕ → List ℕ
+textAfter (D.Refused s) o t = t
+textAfter (D.Answered n) o t = take n o ++ drop (length (take n o)) t
+
+abbrev pub textOf : Result → List ℕ → List ℕ
+textOf (stopped s) t = t
+textOf (went s a) t = a ++ drop (length a) t
+
+-- the verdict v, with s settled, and the text output after it say what the result is
+pub record Written (r : Result) (s : Settled) (v : Verdict) (old new : List ℕ) : Type 0 where
+  pub result : resultOf v s new ≡ r
+  pub text : new ≡ textOf r old
+
+-- what is put back into the area g: the bytes k at `at`, where the block is refused
+abbrev pub undone : Verdict → List ℕ → ℕ → List ℕ → List ℕ
+undone (D.Refused s) g at k = joined g at k
+undone (D.Answered n) g at k = g
+
+-- the block that is judged after n gathered bytes of the area g, and the area then
+abbrev pub judgedBlock : ℕ → List ℕ → List ℕ → List ℕ
+judgedBlock n d g = pick (eqb n 0) d (take n g ++ d)
+
+abbrev pub judgedArea : ℕ → List ℕ → List ℕ → List ℕ
+judgedArea n d g = pick (eqb n 0) g (joined g n d)
+
+abbrev pub areaOf : Result → List ℕ → List ℕ → List ℕ
+areaOf (stopped s) g h = g
+areaOf (went s a) g h = h
+
+pub record JudgedIn (judged : Bool) (stage : ℕ) (leading : Bool) (ours : List ℕ) (s : Settled) (n : ℕ) (d : List ℕ) (j : Judged) (g t g' t' : List ℕ) : Type 0 where
+  pub written : Written (blockResult judged stage leading ours s (judgedBlock n d g)) (j .settled) (j .verdict) t t'
+  pub area : g' ≡ areaOf (blockResult judged stage leading ours s (judgedBlock n d g)) g (judgedArea n d g)
+
+-- ---- a PDU
+
+-- the Login that a request is, with its data's place
+abbrev pub loginIn : Request → ℕ → ℕ → Found
+loginIn (R.NopOut x) a n = N.Refused F.Field
+loginIn (R.ScsiCommand x) a n = N.Refused F.Field
+loginIn (R.TaskManagement x) a n = N.Refused F.Field
+loginIn (R.Login q) a n = N.Login q a n
+loginIn (R.Logout x) a n = N.Refused F.Field
+loginIn (R.Snack x) a n = N.Refused F.Field
+
+-- what is done with it: FIELD for a PDU that is no Login
 abbrev pub foundStep : Found → State → List ℕ → ℕ → ℕ → List ℕ → List ℕ → List ℕ → Outcome
-foundStep N.Other l d live new ours g t = refuse l 3 g t
-foundStep (N.Login q) l d live new ours g t = requestStep l q d live new ours g t
+foundStep (N.Login q a n) l pdu live new ours g t = requestStep l q (take n (drop a pdu)) live new ours g t
+foundStep (N.Refused f) l pdu live new ours g t = record { state = l; answer = refused (number f) (status f); gather = g; text = t }
+
+-- where its data ends
+abbrev pub endOf : Found → ℕ
+endOf (N.Login q a n) = a + n
+endOf (N.Refused f) = 0
+
+abbrev pub isLogin : Found → Bool
+isLogin (N.Login q a n) = true
+isLogin (N.Refused f) = false
+
+pub record ReadAs (pdu : List ℕ) (f : Found) : Type 0 where
+  pub step : (l : State) (live new : ℕ) (ours g t : List ℕ) → foundStep f l pdu live new ours g t ≡ readStep (readPdu limits pdu) l pdu live new ours g t
+  pub inside : endOf f ≤ length pdu
+
+pub record FoundAs (over : Bool) (gather text : ℕ) (pdu : List ℕ) (f : Found) : Type 0 where
+  pub step : (l : State) (live new : ℕ) (ours g t : List ℕ) → l .over ≡ over → length g ≡ gather → length t ≡ text → foundStep f l pdu live new ours g t ≡ loginStep l pdu live new ours g t
+  pub inside : endOf f ≤ length pdu
+  pub areas : isLogin f ≡ true → (8192 ≤ gather) × (8192 ≤ text)

@@ -33,10 +33,6 @@ abbrev pub answerOf : A.Answer → List ℕ → Answer
 answerOf (W.Refused f) t = refused (number f) (status f)
 answerOf (W.Accepted a) t = answered (a .stage) (a .transit) (a .csg) (a .nsg) (a .tsih) (take (a .length) t)
 
-abbrev pub isRefused : A.Answer → Bool
-isRefused (W.Refused f) = true
-isRefused (W.Accepted a) = false
-
 -- the answer, the login after the request, and what the gather area and the text output hold then
 pub record Outcome : Type 0 where
   pub state : State

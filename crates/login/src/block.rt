@@ -1,17 +1,22 @@
 // The pairs of a block, judged left to right and answered in their order; the first refusal decides.
 use keys::answer::put_said;
 use keys::judge::judge_pair;
-use keys::judge::settled_after;
+use keys::judge::settle_pair;
 use keys::parameters::Settled;
+use keys::table::KNOWN;
 use keys::table::key_of;
 use keys::value::Judgement;
-use text::block::ends_of;
+use text::block::MAX_PAIRS;
+use text::block::cut_pair;
+use text::block::name_good;
+use text::block::well_formed;
 ghost use mathlib.Core.Path.{_≡_};
-ghost use mathlib.Core.Bool.{true};
 ghost use Prim.Native.Nat.{_+_, _≤_};
 ghost use lib.ListN.{length, take};
-ghost use Rattle.text.specs.Block.{goodFirst, formed, pairs};
-ghost use Rattle.login.specs.Block.{stopOf, FirstOf, JudgedAs, judge};
+ghost use Rattle.text.specs.Text.{pick};
+ghost use Rattle.text.specs.Block.{formed};
+ghost use Rattle.keys.specs.Judge.{settledOf};
+ghost use Rattle.login.specs.Block.{stopOf, PairOf, FirstOf, JudgedAs, judgeBlock};
 
 // Whether a judgement refuses.
 pub enum Stop {
@@ -29,16 +34,54 @@ fn stop_of(j: Judgement) -> Stop
     }
 }
 
-// The first pair of what is left, judged and answered: what is settled after it, the count of answered bytes, and its end.
+// The first pair of what is left: whether its form is good, its key, and where its name and its value end.
+pub struct Pair {
+    pub ok: bool,
+    pub key: usize,
+    pub eq: usize,
+    pub end: usize,
+}
+
+// A known key's name has a good form, so only another name is looked at byte by byte.
+fn pair_in(rest: &[u8]) -> Pair
+    ensures { λ r. ⌜ PairOf (now (rest .entry)) r ⌝ }
+{
+    let p = cut_pair(rest);
+    let eq = p.eq;
+    let end = p.end;
+    if !p.ok {
+        return Pair {
+            ok: false,
+            key: KNOWN,
+            eq,
+            end,
+        };
+    }
+    let name = &rest[..eq];
+    let key = key_of(name);
+    if key < KNOWN {
+        return Pair {
+            ok: true,
+            key,
+            eq,
+            end,
+        };
+    }
+    let ok = name_good(name);
+    Pair { ok, key, eq, end }
+}
+
+// The first pair of what is left, judged and answered: whether its form is good, the count of answered bytes, and its end.
 pub struct First {
-    pub settled: Settled,
+    pub ok: bool,
     pub stop: Stop,
     pub count: usize,
     pub end: usize,
 }
 
 fn judge_first(
-    s: Settled,
+    seen: &mut [bool; 28],
+    values: &mut [u32],
     stage: u8,
     leading: bool,
     ours: &[u8],
@@ -46,21 +89,27 @@ fn judge_first(
     out: &mut [u8],
     at: usize,
 ) -> First
-    requires { ⌜ (goodFirst (now rest) ≡ true) × (at + 78 ≤ length (now out)) ⌝ }
-    ensures { λ r. ⌜ FirstOf s stage leading (now (ours .entry)) (now (rest .entry)) (now (out .entry)) at r (now (out .exit)) ⌝ }
+    requires { ⌜ at + 78 ≤ length (now out) ⌝ }
+    ensures { λ r. ⌜ FirstOf (settledOf (now (seen .entry)) (now (values .entry))) stage leading (now (ours .entry)) (now (rest .entry)) (now (out .entry)) at r (settledOf (now (seen .exit)) (now (values .exit))) (now (out .exit)) ⌝ }
 {
-    let p = ends_of(rest);
+    let p = pair_in(rest);
     let eq = p.eq;
     let end = p.end;
-    let name = &rest[..eq];
-    let value = &rest[eq + 1..end];
-    let k = key_of(name);
-    let j = judge_pair(s, stage, leading, ours, k, value);
-    let settled = settled_after(s, k, j);
-    let count = put_said(out, at, name, j);
+    if !p.ok {
+        return First {
+            ok: false,
+            stop: Stop::Goes,
+            count: at,
+            end,
+        };
+    }
+    let k = p.key;
+    let j = judge_pair(seen, stage, leading, ours, k, &rest[eq + 1..end]);
+    settle_pair(seen, values, k, j);
+    let count = put_said(out, at, &rest[..eq + 1], j);
     let stop = stop_of(j);
     First {
-        settled,
+        ok: true,
         stop,
         count,
         end,
@@ -78,44 +127,49 @@ pub struct Judged {
     pub verdict: Verdict,
 }
 
-// A block whose form is good; its answer is put after the first `start` bytes of the output.
+// The status of a block with a refused pair: a breach of its form anywhere comes first.
+fn pair_status(block: &[u8], status: u16) -> u16
+    ensures { λ r. ⌜ r ≡ pick (formed 64 (now (block .entry))) status 0x0200 ⌝ }
+{
+    if well_formed(block) { status } else { 0x0200 }
+}
+
+// A block, its form looked at pair by pair as it is judged; its answer is put after the first `start` bytes of the output.
 pub fn judge_block(
-    s: Settled,
+    seen: &mut [bool; 28],
+    values: &mut [u32],
     stage: u8,
     leading: bool,
     ours: &[u8],
     block: &[u8],
     out: &mut [u8],
     start: usize,
-) -> Judged
-    requires { ⌜ (formed 64 (now block) ≡ true) × (start + 4992 ≤ length (now out)) ⌝ }
-    ensures { λ r. ⌜ JudgedAs (judge stage leading (now (ours .entry)) s (take start (now (out .entry))) (pairs 64 (now (block .entry)))) (r .settled) (r .verdict) (now (out .exit)) ⌝ }
+) -> Verdict
+    requires { ⌜ start + 4992 ≤ length (now out) ⌝ }
+    ensures { λ v. ⌜ JudgedAs (judgeBlock stage leading (now (ours .entry)) (settledOf (now (seen .entry)) (now (values .entry))) (take start (now (out .entry))) (now (block .entry))) (settledOf (now (seen .exit)) (now (values .exit))) v (now (out .exit)) ⌝ }
 {
-    let mut t = s;
     let mut count = start;
     let mut at = 0;
     let mut n: usize = 0;
     while at < block.len() {
-        let f = judge_first(t, stage, leading, ours, &block[at..], out, count);
+        if n == MAX_PAIRS {
+            return Verdict::Refused(0x0200);
+        }
+        let f = judge_first(seen, values, stage, leading, ours, &block[at..], out, count);
+        if !f.ok {
+            return Verdict::Refused(0x0200);
+        }
         let stop = f.stop;
         match stop {
             Stop::Stops(status) => {
-                return Judged {
-                    settled: s,
-                    verdict: Verdict::Refused(status),
-                };
+                return Verdict::Refused(pair_status(block, status));
             }
             Stop::Goes => {
-                let u = f.settled;
-                t = u;
                 count = f.count;
                 at = at + f.end + 1;
                 n += 1;
             }
         }
     }
-    Judged {
-        settled: t,
-        verdict: Verdict::Answered(count),
-    }
+    Verdict::Answered(count)
 }

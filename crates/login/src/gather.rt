@@ -1,17 +1,19 @@
 // Text that comes in pieces: gathered while C is set, joined to the last piece, and judged as one block.
-use crate::answer::judge_text;
+use crate::block::Judged;
+use crate::block::Verdict;
 use crate::state::Accepted;
 use crate::state::Answer;
 use crate::state::State;
 use crate::state::Step;
-use crate::state::is_refused;
+use crate::verdict::judge_text;
 use header::request::Login;
+use keys::parameters::Settled;
 use text::slice::append;
 ghost use mathlib.Core.Path.{_≡_};
 ghost use Prim.Native.Nat.{_+_, _≤_};
 ghost use lib.ListN.{length, take};
-ghost use Rattle.login.specs.Login.{blockOf, joined, answerOf, Outcome, judgeStep};
-ghost use Rattle.login.specs.Code.{gatheredStep, Joined};
+ghost use Rattle.login.specs.Login.{blockOf};
+ghost use Rattle.login.specs.Code.{gatheredStep, Joined, undone, JudgedIn};
 
 // The block to judge: the request's own data if nothing was gathered, and the gathered bytes otherwise.
 pub fn block_of<'a>(piece: &'a [u8], gather: &'a [u8], gathered: usize) -> &'a [u8]
@@ -67,55 +69,75 @@ fn join(gather: &mut [u8], at: usize, piece: &[u8], kept: &mut [u8]) -> usize
     append(gather, at, piece)
 }
 
-// What was kept is put back.
-fn undo(gather: &mut [u8], at: usize, n: usize, kept: &[u8])
+// What was kept is put back where the block is refused.
+fn undo(v: Verdict, gather: &mut [u8], at: usize, n: usize, kept: &[u8])
     requires { ⌜ (at + n ≤ length (now gather)) × (n ≤ length (now kept)) ⌝ }
-    ensures { λ _. ⌜ now (gather .exit) ≡ joined (now (gather .entry)) at (take n (now (kept .entry))) ⌝ }
+    ensures { λ _. ⌜ now (gather .exit) ≡ undone v (now (gather .entry)) at (take n (now (kept .entry))) ⌝ }
 {
-    append(gather, at, &kept[..n]);
+    match v {
+        Verdict::Refused(_) => {
+            append(gather, at, &kept[..n]);
+        }
+        Verdict::Answered(_) => {}
+    }
 }
 
-// The last piece after gathered bytes.
+// The last piece after `at` gathered bytes.
 fn judge_gathered(
-    l: State,
-    q: Login,
-    piece: &[u8],
-    new: u16,
+    s: Settled,
+    judged: bool,
+    stage: u8,
+    leading: bool,
     ours: &[u8],
+    at: usize,
+    piece: &[u8],
     gather: &mut [u8],
     text: &mut [u8],
-) -> Step
-    requires { ⌜ (8192 ≤ length (now gather)) × (8192 ≤ length (now text)) × (l .gathered + length (now piece) ≤ 8192) × (l .gathered ≡ 0 → ⊥) ⌝ }
-    ensures { λ r. ⌜ _≡_ {A = Outcome} (record { state = r .state; answer = answerOf (r .answer) (now (text .exit)); gather = now (gather .exit); text = now (text .exit) }) (judgeStep l q new (now (ours .entry)) (now (piece .entry)) (now (gather .entry)) (now (text .entry))) ⌝ }
+) -> Judged
+    requires { ⌜ (8192 ≤ length (now gather)) × (8192 ≤ length (now text)) × (at + length (now piece) ≤ 8192) × (at ≡ 0 → ⊥) ⌝ }
+    ensures { λ r. ⌜ JudgedIn judged stage leading (now (ours .entry)) s at (now (piece .entry)) r (now (gather .entry)) (now (text .entry)) (now (gather .exit)) (now (text .exit)) ⌝ }
 {
-    let at = l.gathered as usize;
     let mut kept = [0u8; 8192];
     let total = join(gather, at, piece, &mut kept);
-    let r = judge_text(l, q, new, ours, block_of(piece, gather, total), text);
-    let a = r.answer;
-    if is_refused(a) {
-        undo(gather, at, piece.len(), &kept);
-        return r;
-    }
-    r
+    let j = judge_text(
+        s,
+        judged,
+        stage,
+        leading,
+        ours,
+        block_of(piece, gather, total),
+        text,
+    );
+    let v = j.verdict;
+    undo(v, gather, at, piece.len(), &kept);
+    j
 }
 
-// A request without C: its block is judged and answered.
+// A request without C, after `at` gathered bytes: its block is judged and answered.
 pub fn judge_request(
-    l: State,
-    q: Login,
-    piece: &[u8],
-    new: u16,
+    s: Settled,
+    judged: bool,
+    stage: u8,
+    leading: bool,
     ours: &[u8],
+    at: usize,
+    piece: &[u8],
     gather: &mut [u8],
     text: &mut [u8],
-) -> Step
-    requires { ⌜ (8192 ≤ length (now gather)) × (8192 ≤ length (now text)) × (l .gathered + length (now piece) ≤ 8192) ⌝ }
-    ensures { λ r. ⌜ _≡_ {A = Outcome} (record { state = r .state; answer = answerOf (r .answer) (now (text .exit)); gather = now (gather .exit); text = now (text .exit) }) (judgeStep l q new (now (ours .entry)) (now (piece .entry)) (now (gather .entry)) (now (text .entry))) ⌝ }
+) -> Judged
+    requires { ⌜ (8192 ≤ length (now gather)) × (8192 ≤ length (now text)) × (at + length (now piece) ≤ 8192) ⌝ }
+    ensures { λ r. ⌜ JudgedIn judged stage leading (now (ours .entry)) s at (now (piece .entry)) r (now (gather .entry)) (now (text .entry)) (now (gather .exit)) (now (text .exit)) ⌝ }
 {
-    let at = l.gathered as usize;
     if at == 0 {
-        return judge_text(l, q, new, ours, block_of(piece, gather, at), text);
+        return judge_text(
+            s,
+            judged,
+            stage,
+            leading,
+            ours,
+            block_of(piece, gather, at),
+            text,
+        );
     }
-    judge_gathered(l, q, piece, new, ours, gather, text)
+    judge_gathered(s, judged, stage, leading, ours, at, piece, gather, text)
 }

@@ -5,3 +5,4 @@ pub mod checks;
 pub mod gather;
 pub mod request;
 pub mod state;
+pub mod verdict;

@@ -1,5 +1,6 @@
 // One login request, whole: the one entry of the login phase.
 use crate::answer::end;
+use crate::answer::finish;
 use crate::checks::MAX_TEXT;
 use crate::checks::status_of;
 use crate::gather::gathered_step;
@@ -7,7 +8,6 @@ use crate::gather::judge_request;
 use crate::state::Answer;
 use crate::state::State;
 use crate::state::Step;
-use header::read::data_of;
 use header::read::read;
 use header::refusal::Refusal;
 use header::request::LIMITS;
@@ -19,7 +19,7 @@ ghost use mathlib.Core.Path.{_≡_};
 ghost use Prim.Native.Nat.{_≤_};
 ghost use lib.ListN.{length};
 ghost use Rattle.login.specs.Login.{answerOf, Outcome, requestStep, loginStep};
-ghost use Rattle.login.specs.Code.{refuseStep, loginIn, foundStep};
+ghost use Rattle.login.specs.Code.{refuseStep, loginIn, ReadAs, FoundAs};
 
 // A refusal that leaves the login as it was.
 fn refuse(l: State, why: Refusal) -> Step
@@ -57,46 +57,61 @@ fn request_step(
         let n = append(gather, at, piece);
         return gathered_step(l, q, n);
     }
-    judge_request(l, q, piece, new, ours, gather, text)
+    let t = l.settled;
+    let at = l.gathered as usize;
+    let leading = q.tsih == 0;
+    let j = judge_request(t, l.judged, q.csg, leading, ours, at, piece, gather, text);
+    finish(l, q, new, j)
 }
 
-// The Login that a read request is.
+// What a PDU is to a login: a Login and where its data lies, or a refusal.
 pub enum Found {
-    Login(Login),
-    Other,
-}
-
-fn login_in(r: Request) -> Found
-    ensures { λ f. ⌜ f ≡ loginIn r ⌝ }
-{
-    match r {
-        Request::Login(q) => Found::Login(q),
-        Request::NopOut(_) => Found::Other,
-        Request::ScsiCommand(_) => Found::Other,
-        Request::TaskManagement(_) => Found::Other,
-        Request::Logout(_) => Found::Other,
-        Request::Snack(_) => Found::Other,
-    }
+    Login(Login, usize, usize),
+    Refused(Refusal),
 }
 
 // A request that was read: FIELD where it is no Login.
-fn kind_step(
-    l: State,
-    f: Found,
-    piece: &[u8],
-    live: u16,
-    new: u16,
-    ours: &[u8],
-    gather: &mut [u8],
-    text: &mut [u8],
-) -> Step
-    requires { ⌜ (8192 ≤ length (now gather)) × (8192 ≤ length (now text)) ⌝ }
-    ensures { λ s. ⌜ _≡_ {A = Outcome} (record { state = s .state; answer = answerOf (s .answer) (now (text .exit)); gather = now (gather .exit); text = now (text .exit) }) (foundStep f l (now (piece .entry)) live new (now (ours .entry)) (now (gather .entry)) (now (text .entry))) ⌝ }
+fn login_in(r: Request, start: usize, len: usize) -> Found
+    ensures { λ f. ⌜ f ≡ loginIn r start len ⌝ }
 {
-    match f {
-        Found::Login(q) => request_step(l, q, piece, live, new, ours, gather, text),
-        Found::Other => refuse(l, Refusal::Field),
+    let other = Found::Refused(Refusal::Field);
+    match r {
+        Request::Login(q) => Found::Login(q, start, len),
+        Request::NopOut(_) => other,
+        Request::ScsiCommand(_) => other,
+        Request::TaskManagement(_) => other,
+        Request::Logout(_) => other,
+        Request::Snack(_) => other,
     }
+}
+
+fn read_login(pdu: &[u8]) -> Found
+    ensures { λ f. ⌜ ReadAs (now (pdu .entry)) f ⌝ }
+{
+    let answer = read(pdu, LIMITS);
+    match answer {
+        ReadAnswer::Refused(why) => Found::Refused(why),
+        ReadAnswer::Got(p) => {
+            let r = p.request;
+            login_in(r, p.data_start, p.data_segment_length)
+        }
+    }
+}
+
+// The refusals before a request is looked at: areas of these lengths, and a login that is over or not.
+fn find_login(over: bool, gather: usize, text: usize, pdu: &[u8]) -> Found
+    ensures { λ f. ⌜ FoundAs over gather text (now (pdu .entry)) f ⌝ }
+{
+    if gather < MAX_TEXT {
+        return Found::Refused(Refusal::Buffer);
+    }
+    if text < MAX_TEXT {
+        return Found::Refused(Refusal::Buffer);
+    }
+    if over {
+        return Found::Refused(Refusal::Closed);
+    }
+    read_login(pdu)
 }
 
 // One request of a login: `pdu` whole, the handle of the live session (0 for none), the new handle, our target name, the gather area
@@ -112,22 +127,12 @@ pub fn login_request(
 ) -> Step
     ensures { λ r. ⌜ _≡_ {A = Outcome} (record { state = r .state; answer = answerOf (r .answer) (now (text .exit)); gather = now (gather .exit); text = now (text .exit) }) (loginStep l (now (pdu .entry)) live new (now (ours .entry)) (now (gather .entry)) (now (text .entry))) ⌝ }
 {
-    if gather.len() < MAX_TEXT {
-        return refuse(l, Refusal::Buffer);
-    }
-    if text.len() < MAX_TEXT {
-        return refuse(l, Refusal::Buffer);
-    }
-    if l.over {
-        return refuse(l, Refusal::Closed);
-    }
-    let read_pdu = read(pdu, LIMITS);
-    match read_pdu {
-        ReadAnswer::Refused(why) => refuse(l, why),
-        ReadAnswer::Got(p) => {
-            let r = p.request;
-            let f = login_in(r);
-            kind_step(l, f, data_of(pdu, p), live, new, ours, gather, text)
+    let f = find_login(l.over, gather.len(), text.len(), pdu);
+    match f {
+        Found::Refused(why) => refuse(l, why),
+        Found::Login(q, start, len) => {
+            let end = start + len;
+            request_step(l, q, &pdu[start..end], live, new, ours, gather, text)
         }
     }
 }

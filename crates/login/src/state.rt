@@ -2,7 +2,7 @@
 use header::refusal::Refusal;
 use keys::parameters::Settled;
 ghost use mathlib.Core.Path.{_≡_};
-ghost use Rattle.login.specs.Login.{freshLogin, isRefused};
+ghost use Rattle.login.specs.Login.{freshLogin};
 
 pub struct State {
     // Refused, or in full feature phase.
@@ -59,14 +59,5 @@ impl State {
             gathered: 0,
             settled: Settled::fresh(),
         }
-    }
-}
-
-pub fn is_refused(a: Answer) -> bool
-    ensures { λ r. ⌜ r ≡ isRefused a ⌝ }
-{
-    match a {
-        Answer::Refused(_) => true,
-        Answer::Accepted(_) => false,
     }
 }

@@ -11,7 +11,7 @@ use lib.ListN.{length, getD, take, drop, set, drop-of-length-le, length-drop, le
 use lib.Seq.{drop-cons, drop-drop, take-all, getD-set-same, drop-set-lt}
 use lib.Dec.{eqb, ltb, leb, leb·suc-suc}
 use Rattle.text.specs.Text.{pick, before, after, has, same, all, items, onto, listed, Appended}
-use Rattle.text.specs.Block.{within, nameIn, valueIn, restOf, goodFirst, goodName, formed, empty, EndsOf}
+use Rattle.text.specs.Block.{within, nameIn, valueIn, restOf, wholeFirst, goodFirst, goodName, formed, empty}
 use Rattle.text.specs.Number.{worth, digitOf, isDigit, numberIn, decimal}
 use Rattle.text.specs.declared.number.Number.the-variants.{Value, Bad}
 
@@ -133,6 +133,18 @@ unfolding before
 take-before x [] = refl
 take-before x (y ∷ s) = take-go (eqb y x) y (before x s) s (take-before x s)
 
+pub false-true {ℓ} : {A : Type ℓ} → false ≡ true → A
+false-true e = absurd (let z : _≡_ {A = ℕ} 0 1 = cc in omega arith)
+
+past-go : (t : Bool) (x y : ℕ) (b s : List ℕ) (h : Bool) → eqb y x ≡ t → (h ≡ true → take (suc (length b)) s ≡ b ++ (x ∷ [])) → (t || h) ≡ true → take (suc (length (pick t [] (y ∷ b)))) (y ∷ s) ≡ pick t [] (y ∷ b) ++ (x ∷ [])
+past-go true x y b s h e r k = ap (λ (z : ℕ). z ∷ []) (eqb-true y x e)
+past-go false x y b s h e r k = ap (λ (z : List ℕ). y ∷ z) (r k)
+
+take-past : (x : ℕ) (s : List ℕ) → has x s ≡ true → take (suc (length (before x s))) s ≡ before x s ++ (x ∷ [])
+unfolding before has
+take-past x [] h = false-true h
+take-past x (y ∷ s) h = past-go (eqb y x) x y (before x s) s (has x s) refl (take-past x s) h
+
 drop-go : (t : Bool) (y : ℕ) (b s a : List ℕ) → drop (suc (length b)) s ≡ a → drop (suc (length (pick t [] (y ∷ b)))) (y ∷ s) ≡ pick t s a
 drop-go true y b s a e = refl
 drop-go false y b s a e = e
@@ -160,9 +172,6 @@ length-after x s = ap length (sym (drop-before x s)) ∙ length-drop (length (be
 pub &&-right : (a b : Bool) → (a && b) ≡ true → b ≡ true
 &&-right true b e = e
 &&-right false b e = cc
-
-pub false-true {ℓ} : {A : Type ℓ} → false ≡ true → A
-false-true e = absurd (let z : _≡_ {A = ℕ} 0 1 = cc in omega arith)
 
 -- After a good first pair comes the rest of the text.
 pub rest-at : (s : List ℕ) (k e : ℕ) → e ≡ length (nameIn (drop k s)) + 1 + length (valueIn (drop k s)) → drop (k + e + 1) s ≡ restOf (drop k s)
@@ -283,6 +292,14 @@ same-eq [] (y ∷ b) e = false-true e
 same-eq (x ∷ a) [] e = false-true e
 same-eq (x ∷ a) (y ∷ b) e = ap₂ (λ (h : ℕ) (t : List ℕ). h ∷ t) (eqb-true x y (&&-left (eqb x y) (same a b) e)) (same-eq a b (&&-right (eqb x y) (same a b) e))
 
+onto-none : (a : List ℕ) → a ++ [] ≡ a
+onto-none [] = refl
+onto-none (x ∷ a) = ap (λ (r : List ℕ). x ∷ r) (onto-none a)
+
+-- Nothing was put.
+pub appended-none : (o : List ℕ) (at : ℕ) → Appended o at [] o at
+appended-none o at = record { count = omega arith; text = sym (onto-none (take at o)); rest = refl }
+
 -- Two things put after each other.
 pub appended-then : {o a p b q : List ℕ} {at m n : ℕ} → Appended o at a p m → Appended p m b q n → Appended o at (a ++ b) q n
 appended-then {o} {a} {p} {b} {q} {at} {m} {n} x y = record {
@@ -291,33 +308,35 @@ appended-then {o} {a} {p} {b} {q} {at} {m} {n} x y = record {
   rest = y .rest ∙ (rw (y .count) (sym (drop-drop (length b) m p) ∙ ap (drop (length b)) (x .rest) ∙ drop-drop (length b) m o));
 }
 
--- A good first pair: its name is short, and = and a zero byte stand where they should.
-module _ (s : List ℕ) (e : goodFirst s ≡ true) where
-  pub good-name : goodName (nameIn s) ≡ true
-  unfolding goodFirst
-  good-name = &&-left _ _ (&&-left _ _ (&&-left _ _ e))
+-- A first pair is good if its name is, and the rest of its form.
+good-go : (a b c d : Bool) → (((a && b) && c) && d) ≡ (a && ((b && c) && d))
+good-go true b c d = refl
+good-go false b c d = refl
 
-  pub good-equals : length (nameIn s) < length s
-  unfolding goodFirst
-  good-equals = ltb-true _ _ (sym (has-before 61 s) ∙ &&-right (goodName (nameIn s)) _ (&&-left _ _ (&&-left _ _ e)))
+pub good-first : (s : List ℕ) → goodFirst s ≡ (goodName (nameIn s) && wholeFirst s)
+unfolding goodFirst
+good-first s = good-go (goodName (nameIn s)) (has 61 s) (leb (length (valueIn s)) 255) (has 0 (after 61 s))
 
-  pub good-zero : length (valueIn s) < length (after 61 s)
-  unfolding goodFirst
-  good-zero = ltb-true _ _ (sym (has-before 0 (after 61 s)) ∙ &&-right ((goodName (nameIn s) && has 61 s) && leb (length (valueIn s)) 255) _ e)
+-- a good name is short
+good-short : (n : List ℕ) → goodName n ≡ true → length n ≤ 63
+unfolding goodName
+good-short n e = leb-true _ 63 (&&-right (leb 1 (length n)) _ (&&-left _ _ (&&-left _ _ (&&-left _ _ e))))
 
-  pub name-short : length (nameIn s) ≤ 63
-  unfolding goodName
-  name-short = leb-true _ 63 (&&-right (leb 1 (length (nameIn s))) _ (&&-left _ _ (&&-left _ _ (&&-left _ _ good-name))))
+pub name-short : (s : List ℕ) → goodFirst s ≡ true → length (nameIn s) ≤ 63
+name-short s e = good-short (nameIn s) (&&-left (goodName (nameIn s)) _ (sym (good-first s) ∙ e))
 
 -- The name and the value, as parts of the text.
-module _ {s : List ℕ} {eq end : ℕ} (p : EndsOf s eq end) where
-  pub ends-name : take eq s ≡ nameIn s
-  ends-name = rw (p .name) (take-before 61 s)
+module _ (s : List ℕ) {eq end : ℕ} (n : eq ≡ length (nameIn s)) (v : end ≡ length (nameIn s) + 1 + length (valueIn s)) where
+  pub cut-name : take eq s ≡ nameIn s
+  cut-name = rw n (take-before 61 s)
 
-  pub ends-value : take (end - (eq + 1)) (drop (eq + 1) s) ≡ valueIn s
-  ends-value =
-      let m : end - (eq + 1) ≡ length (before 0 (after 61 s)) = omega (arith, p .name, p .value) in
-      rw (m, p .name, drop-before 61 s) (take-before 0 (after 61 s))
+  pub cut-start : wholeFirst s ≡ true → take (eq + 1) s ≡ nameIn s ++ (61 ∷ [])
+  cut-start w = rw (n, add-one) (take-past 61 s (&&-left _ _ (&&-left (has 61 s && leb (length (valueIn s)) 255) _ w)))
+
+  pub cut-value : take (end - (eq + 1)) (drop (eq + 1) s) ≡ valueIn s
+  cut-value =
+      let m : end - (eq + 1) ≡ length (before 0 (after 61 s)) = omega (arith, n, v) in
+      rw (m, n, drop-before 61 s) (take-before 0 (after 61 s))
 
 -- The whole output after an appending, and after one at its front.
 pub appended-whole : {o b p : List ℕ} {at r : ℕ} → Appended o at b p r → p ≡ (take at o ++ b) ++ drop (at + length b) o

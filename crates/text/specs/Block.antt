@@ -43,6 +43,10 @@ restOf s = after 0 (after 61 s)
 unfoldable pub goodFirst : List ℕ → Bool
 goodFirst s = ((goodName (nameIn s) && has 61 s) && leb (length (valueIn s)) 255) && has 0 (after 61 s)
 
+-- the same, whatever the name is
+abbrev pub wholeFirst : List ℕ → Bool
+wholeFirst s = (has 61 s && leb (length (valueIn s)) 255) && has 0 (after 61 s)
+
 abbrev pub empty : List ℕ → Bool
 empty s = eqb (length s) 0
 
@@ -63,8 +67,9 @@ pub record SpanOf (s : List ℕ) (eq end : ℕ) (ok : Bool) : Type 0 where
   pub value : ok ≡ true → end ≡ length (nameIn s) + 1 + length (valueIn s)
   pub inside : ok ≡ true → end < length s
 
--- where the name and the value of a good first pair end, and that a zero byte follows
-pub record EndsOf (s : List ℕ) (eq end : ℕ) : Type 0 where
-  pub name : eq ≡ length (nameIn s)
-  pub value : end ≡ length (nameIn s) + 1 + length (valueIn s)
-  pub inside : end < length s
+-- what the scan of a first pair says, whatever the name is
+pub record CutOf (s : List ℕ) (eq end : ℕ) (ok : Bool) : Type 0 where
+  pub right : ok ≡ wholeFirst s
+  pub name : ok ≡ true → eq ≡ length (nameIn s)
+  pub value : ok ≡ true → end ≡ length (nameIn s) + 1 + length (valueIn s)
+  pub inside : ok ≡ true → end < length s

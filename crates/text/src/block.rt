@@ -1,10 +1,9 @@
 // The form of a text block: zero to 64 pairs NAME=VALUE, each followed by one zero byte.
 use crate::slice::find;
 ghost use mathlib.Core.Path.{_≡_};
-ghost use mathlib.Core.Bool.{true};
 ghost use lib.ListN.{drop};
 ghost use Rattle.text.specs.Text.{all};
-ghost use Rattle.text.specs.Block.{nameByte, goodName, goodFirst, formed, SpanOf, EndsOf};
+ghost use Rattle.text.specs.Block.{nameByte, goodName, formed, SpanOf, CutOf};
 
 pub const MAX_PAIRS: usize = 64;
 
@@ -36,7 +35,7 @@ fn tail_good(s: &[u8]) -> bool
 }
 
 // The form of a name.
-fn name_good(s: &[u8]) -> bool
+pub fn name_good(s: &[u8]) -> bool
     ensures { λ r. ⌜ r ≡ goodName (now (s .entry)) ⌝ }
 {
     if s.len() < 1 {
@@ -60,8 +59,9 @@ pub struct Span {
     pub ok: bool,
 }
 
-fn first_pair(s: &[u8]) -> Span
-    ensures { λ r. ⌜ SpanOf (now (s .entry)) (r .eq) (r .end) (r .ok) ⌝ }
+// The same, whatever the name is: ok if = is there, the value is not too long, and a zero byte follows it.
+pub fn cut_pair(s: &[u8]) -> Span
+    ensures { λ r. ⌜ CutOf (now (s .entry)) (r .eq) (r .end) (r .ok) ⌝ }
 {
     let eq = find(s, 61);
     if eq == s.len() {
@@ -73,11 +73,26 @@ fn first_pair(s: &[u8]) -> Span
     }
     let tail = &s[eq + 1..];
     let n = find(tail, 0);
-    let named = name_good(&s[..eq]);
     Span {
         eq,
         end: eq + 1 + n,
-        ok: named & (n <= 255) & (n < tail.len()),
+        ok: (n <= 255) & (n < tail.len()),
+    }
+}
+
+fn first_pair(s: &[u8]) -> Span
+    ensures { λ r. ⌜ SpanOf (now (s .entry)) (r .eq) (r .end) (r .ok) ⌝ }
+{
+    let p = cut_pair(s);
+    if !p.ok {
+        return p;
+    }
+    let eq = p.eq;
+    let named = name_good(&s[..eq]);
+    Span {
+        eq,
+        end: p.end,
+        ok: named,
     }
 }
 
@@ -99,23 +114,4 @@ pub fn well_formed(s: &[u8]) -> bool
         n += 1;
     }
     true
-}
-
-// Where the name and the value of a good first pair end.
-pub struct Ends {
-    pub eq: usize,
-    pub end: usize,
-}
-
-// The ends of the first pair of a text whose form was found good.
-pub fn ends_of(s: &[u8]) -> Ends
-    requires { ⌜ goodFirst (now s) ≡ true ⌝ }
-    ensures { λ r. ⌜ EndsOf (now (s .entry)) (r .eq) (r .end) ⌝ }
-{
-    let eq = find(s, 61);
-    let n = find(&s[eq + 1..], 0);
-    Ends {
-        eq,
-        end: eq + 1 + n,
-    }
 }

@@ -1,28 +1,51 @@
-use Rattle.text.specs.Block.{formed, pairs}
-use Rattle.text.proofs.Laws.{rest-part}
-use Rattle.login.specs.Block.{judge}
-use Rattle.login.proofs.Blocks.{pairs-end, formed-more, formed-good, formed-rest, turn-stop, turn-on}
-use mathlib.Core.Path.{_≡_, refl, sym, _∙_}
-use mathlib.Core.Bool.{true}
+-- The invariant: what is left, judged after what is settled and answered, gives what the whole block gives, and has a good form if the
+-- block has. The measure is what is left.
+use mathlib.Core.Path.{_≡_, refl, sym, ap, _∙_}
+use mathlib.Core.Bool.{true, false}
 use mathlib.Core.List.{[]}
-use Prim.Native.Nat.{suc, _≤_, _<_, _-_, _+_, _*_}
+use Prim.Native.Nat.{ℕ, suc, _≤_, _<_, _-_, _+_, _*_}
 use native.Mathlib.Omega.{arith}
+use borrow.Author.Needs.{needs}
+use borrow.Author.Tests.{not-true, not-false}
 use lib.ListN.{length, take, drop, length-drop}
 use denote.Ref.{now}
-use borrow.Author.Needs.{needs}
+use Rattle.text.specs.Block.{formed, pairs, goodFirst}
+use Rattle.text.proofs.Laws.{rest-part, formed-none, formed-bad, formed-step, formed-end, past, here}
+use Rattle.keys.specs.Judge.{settledOf}
+use Rattle.login.specs.Block.{judge, stopped, FirstGood}
+use Rattle.login.proofs.Blocks.{pairs-end, turn-stop, turn-on, stop-status}
 use Rattle.login.proofs.block.judge_block.Statement.{statement}
 use Rattle.login.proofs.block.judge_block.Tie as tie
 
 abbrev Inv-loop : tie.InvT-loop
-Inv-loop s stage leading ours block out₀ start t₀ count₀ at₀ n₀ out t count at n =
-    (at ≤ length block) × (n ≤ 64) × (length out ≡ length out₀) × (count ≤ start + 78 * n) × (formed (64 - n) (drop at block) ≡ true)
-    × (judge stage leading ours t (take count out) (pairs (64 - n) (drop at block)) ≡ judge stage leading ours s (take start out₀) (pairs 64 block))
+Inv-loop seen₀ values₀ stage leading ours block out₀ start count₀ at₀ n₀ seen values out count at n =
+    (at ≤ length block)
+    × (n ≤ 64)
+    × (length out ≡ length out₀)
+    × (length values ≡ length values₀)
+    × (count ≤ start + 78 * n)
+    × (formed (64 - n) (drop at block) ≡ formed 64 block)
+    × (judge stage leading ours (settledOf seen values) (take count out) (pairs (64 - n) (drop at block)) ≡ judge stage leading ours (settledOf seen₀ values₀) (take start out₀) (pairs 64 block))
 
 abbrev μ-loop : tie.MeasureT-loop
-μ-loop s stage leading ours block out₀ start t₀ count₀ at₀ n₀ out t count at n = length block - at
+μ-loop seen₀ values₀ stage leading ours block out₀ start count₀ at₀ n₀ seen values out count at n = length block - at
 
 loop-holds : tie.Need-loop-holds Inv-loop μ-loop
-loop-holds c = (omega arith, omega arith, refl, omega arith, c .before .before .before .pre .0, refl)
+loop-holds c = (omega arith, omega arith, refl, refl, omega arith, refl, refl)
+
+same-length : tie.Need-same-length Inv-loop μ-loop
+same-length c = c .before .before .loop .inv .3
+
+same-length-2 : tie.Need-same-length-2 Inv-loop μ-loop
+same-length-2 c = c .before .before .loop .inv .2
+
+returns : tie.Need-returns Inv-loop μ-loop
+returns c =
+    let l = c .before .before .loop in
+    let b = now (c .before .before .before .before .before .before .before .args .block) in
+    let e : 64 - l .n ≡ 0 = omega arith in
+    let f : formed 64 b ≡ false = sym (rw e at (l .inv .5)) ∙ formed-none b (l .at) (omega arith) in
+    record { result = sym (past (formed 64 b) _ _ _ f refl); few = omega arith }
 
 sub-judge-first : tie.Need-sub-judge-first Inv-loop μ-loop
 sub-judge-first c = search needs
@@ -35,81 +58,101 @@ part-judge-first-end c = search needs
 
 judge-first-requires : tie.Need-judge-first-requires Inv-loop μ-loop
 judge-first-requires c κs =
-    let l = c .before .before .before .loop in
-    let g = c .before .before .before .before .before .before .before in
-    let b = now (g .args .block) in
-    let m : 1 ≤ 64 - l .n = formed-more b (l .at) (omega arith) (64 - l .n) (l .inv .4) in
-    (rw rest-part (formed-good b (l .at) (omega arith) (64 - l .n) (l .inv .4)), omega (arith, m, g .pre .1, l .inv .2, l .inv .3))
+    let l = c .before .before .before .before .before .before .loop in
+    omega (arith, l .inv .1, c .before .before .before .before .if1 .left, c .before .before .before .before .before .before .before .before .before .before .before .pre, l .inv .2, l .inv .4)
+
+same-length-3 : tie.Need-same-length-3 Inv-loop μ-loop
+same-length-3 c = omega (arith, c .before .before .before .before .before .before .judge-first .kept, c .before .before .before .before .before .before .before .before .before .before .before .before .before .loop .inv .3)
+
+same-length-4 : tie.Need-same-length-4 Inv-loop μ-loop
+same-length-4 c = omega (arith, c .before .before .before .before .before .before .judge-first .kept, c .before .before .before .before .before .before .before .before .before .before .before .before .before .loop .inv .2)
+
+returns-2 : tie.Need-returns-2 Inv-loop μ-loop
+returns-2 c =
+    let l = c .before .before .before .before .before .before .before .before .before .before .before .before .before .loop in
+    let b = now (c .before .before .before .before .before .before .before .before .before .before .before .before .before .before .before .before .before .before .args .block) in
+    let g : goodFirst (drop (l .at) b) ≡ false = rw rest-part at (sym (c .before .before .before .before .before .before .judge-first .ensures .right) ∙ not-true _ (c .if2 .taken)) in
+    let f : formed 64 b ≡ false = sym (l .inv .5) ∙ formed-bad b (l .at) (omega arith) (64 - l .n) g in
+    record { result = sym (past (formed 64 b) _ _ _ f refl); few = omega arith }
 
 enum-known-stop : tie.Need-enum-known-stop Inv-loop μ-loop
 enum-known-stop c = search needs
 
-same-length : tie.Need-same-length Inv-loop μ-loop
-same-length c = omega (arith, c .before .before .before .before .before .judge-first .kept, c .before .before .before .before .before .before .before .before .before .loop .inv .2)
+pair-status-requires : tie.Need-pair-status-requires Inv-loop μ-loop
+pair-status-requires c κs = search needs
 
-returns : tie.Need-returns Inv-loop μ-loop
-returns c =
-    let l = c .before .before .before .before .before .before .before .before .before .loop in
-    let a = c .before .before .before .before .before .before .before .before .before .before .before .before .before .args in
+same-length-5 : tie.Need-same-length-5 Inv-loop μ-loop
+same-length-5 c = omega (arith, c .before .before .before .before .before .before .before .before .before .before .judge-first .kept, c .before .before .before .before .before .before .before .before .before .before .before .before .before .before .before .before .before .loop .inv .3)
+
+same-length-6 : tie.Need-same-length-6 Inv-loop μ-loop
+same-length-6 c = omega (arith, c .before .before .before .before .before .before .before .before .before .before .judge-first .kept, c .before .before .before .before .before .before .before .before .before .before .before .before .before .before .before .before .before .loop .inv .2)
+
+returns-3 : tie.Need-returns-3 Inv-loop μ-loop
+returns-3 c =
+    let l = c .before .before .before .before .before .before .before .before .before .before .before .before .before .before .before .before .before .loop in
+    let a = c .before .before .before .before .before .before .before .before .before .before .before .before .before .before .before .before .before .before .before .before .before .before .args in
     let b = now (a .block) in
-    let f = rw rest-part at (c .before .before .before .before .before .judge-first .ensures) in
-    let h : l .at < length b = omega arith in
-    let m : 1 ≤ 64 - l .n = formed-more b (l .at) h (64 - l .n) (l .inv .4) in
-    let n : 64 - l .n ≡ suc (64 - (l .n + 1)) = omega arith in
-    record {
-      result = sym (turn-stop (a .stage) (a .leading) (now (a .ours)) (l .t) (take (l .count) (l .out)) b (l .at) (64 - (l .n + 1)) (c .before .before .before .before .before .judge-first .result .end) h (f .ended) _ (sym (f .stops) ∙ c .before .stop .given .1)) ∙ rw n at (l .inv .5);
-      few = omega arith;
-    }
+    let f = rw rest-part at (c .before .before .before .before .before .before .before .before .before .before .judge-first .ensures .good (not-false _ (c .before .before .before .before .if2 .left))) in
+    let n : 64 - l .n ≡ suc (64 - (l .n + 1)) = omega (arith, l .inv .1, c .before .before .before .before .before .before .before .before .before .before .before .before .before .before .before .if1 .left) in
+    let e = sym (turn-stop (a .stage) (a .leading) (now (a .ours)) (settledOf (l .seen) (l .values)) (take (l .count) (l .out)) b (l .at) (64 - (l .n + 1)) (c .before .before .before .before .before .before .before .before .before .before .judge-first .result .end) (omega arith) (f .ended) _ (sym (f .stops) ∙ c .before .before .stop .given .1)) ∙ rw n at (l .inv .6) in
+    record { result = ap stopped (c .pair-status .ensures) ∙ stop-status (formed 64 b) _ _ e; few = omega arith }
 
 enum-told : tie.Need-enum-told Inv-loop μ-loop
 enum-told c = search needs
 
--- the pair lies within the block
-inside : (c : tie.After-struct-known Inv-loop μ-loop) → c .before .before .before .before .before .before .before .before .before .before .loop .at + c .before .before .before .before .before .before .judge-first .result .end < length (now (c .before .before .before .before .before .before .before .before .before .before .before .before .before .before .args .block))
+-- a good pair lies within the block
+inside : (c : tie.After-struct-known2 Inv-loop μ-loop) → c .before .before .before .before .before .before .before .before .before .before .before .before .before .before .before .before .loop .at + c .before .before .before .before .before .before .before .before .before .judge-first .result .end < length (now (c .before .before .before .before .before .before .before .before .before .before .before .before .before .before .before .before .before .before .before .before .before .args .block))
 inside c =
-    let f = rw rest-part at (c .before .before .before .before .before .before .judge-first .ensures) in
-    omega (arith, f .inside, length-drop (c .before .before .before .before .before .before .before .before .before .before .loop .at) (now (c .before .before .before .before .before .before .before .before .before .before .before .before .before .before .args .block)))
+    let f = rw rest-part at (c .before .before .before .before .before .before .before .before .before .judge-first .ensures .good (not-false _ (c .before .before .before .if2 .left))) in
+    omega (arith, f .inside, length-drop (c .before .before .before .before .before .before .before .before .before .before .before .before .before .before .before .before .loop .at) (now (c .before .before .before .before .before .before .before .before .before .before .before .before .before .before .before .before .before .before .before .before .before .args .block)))
 
 add-at : tie.Need-add-at Inv-loop μ-loop
-add-at c = omega (arith, inside c, c .before .before .before .before .before .before .before .before .before .before .before .before .before .before .good .1 .1 .1 .1 .0)
+add-at c = omega (arith, inside c, c .before .before .before .before .before .before .before .before .before .before .before .before .before .before .before .before .before .before .before .before .before .good .1 .1 .1 .1 .1 .0)
 
 add-at-2 : tie.Need-add-at-2 Inv-loop μ-loop
-add-at-2 c = omega (arith, inside c, c .before .before .before .before .before .before .before .before .before .before .before .before .before .before .good .1 .1 .1 .1 .0)
+add-at-2 c = omega (arith, inside c, c .before .before .before .before .before .before .before .before .before .before .before .before .before .before .before .before .before .before .before .before .before .good .1 .1 .1 .1 .1 .0)
 
 add-n : tie.Need-add-n Inv-loop μ-loop
 add-n c = search needs
 
 loop-less : tie.Need-loop-less Inv-loop μ-loop
-loop-less c = omega (arith, inside c, c .before .before .before .before .before .before .before .before .before .before .before .before .before .before .good .1 .1 .1 .1 .0)
+loop-less c = omega (arith, inside c, c .before .before .before .before .before .before .before .before .before .before .before .before .before .before .before .before .before .before .before .before .before .good .1 .1 .1 .1 .1 .0)
 
 loop-again : tie.Need-loop-again Inv-loop μ-loop
 loop-again c =
-    let l = c .before .before .before .before .before .before .before .before .before .before .loop in
-    let a = c .before .before .before .before .before .before .before .before .before .before .before .before .before .before .args in
+    let l = c .before .before .before .before .before .before .before .before .before .before .before .before .before .before .before .before .loop in
+    let a = c .before .before .before .before .before .before .before .before .before .before .before .before .before .before .before .before .before .before .before .before .before .args in
     let b = now (a .block) in
-    let f = rw rest-part at (c .before .before .before .before .before .before .judge-first .ensures) in
-    let g = c .before .before .before .before .before .before .judge-first .result in
+    let g = c .before .before .before .before .before .before .before .before .before .judge-first .result in
+    let ok : g .ok ≡ true = not-false _ (c .before .before .before .if2 .left) in
+    let f = rw rest-part at (c .before .before .before .before .before .before .before .before .before .judge-first .ensures .good ok) in
     let h : l .at < length b = omega arith in
-    let m : 1 ≤ 64 - l .n = formed-more b (l .at) h (64 - l .n) (l .inv .4) in
-    let n : 64 - l .n ≡ suc (64 - (l .n + 1)) = omega arith in (
+    let w : goodFirst (drop (l .at) b) ≡ true = rw rest-part at (sym (c .before .before .before .before .before .before .before .before .before .judge-first .ensures .right) ∙ ok) in
+    let n : 64 - l .n ≡ suc (64 - (l .n + 1)) = omega (arith, l .inv .1, c .before .before .before .before .before .before .before .before .before .before .before .before .before .before .if1 .left) in (
       omega (arith, inside c),
-      omega arith,
-      omega (arith, c .before .before .before .before .before .before .judge-first .kept, l .inv .2),
-      omega (arith, f .few, l .inv .3),
-      formed-rest b (l .at) h (64 - (l .n + 1)) (g .end) (f .ended) (rw n at (l .inv .4)),
-      rw (f .text .text, f .settles) (sym (turn-on (a .stage) (a .leading) (now (a .ours)) (l .t) (take (l .count) (l .out)) b (l .at) (64 - (l .n + 1)) (g .end) h (f .ended) (sym (f .stops) ∙ c .before .before .enum-told .given .1)) ∙ rw n at (l .inv .5)),
+      omega (arith, l .inv .1, c .before .before .before .before .before .before .before .before .before .before .before .before .before .before .if1 .left),
+      omega (arith, c .before .before .before .before .before .before .before .before .before .judge-first .kept, l .inv .2),
+      omega (arith, c .before .before .before .before .before .before .before .before .before .judge-first .kept, l .inv .3),
+      omega (arith, f .few, l .inv .4),
+      sym (formed-step b (l .at) h (64 - (l .n + 1)) (g .end) w (f .ended)) ∙ rw n at (l .inv .5),
+      rw (f .text .text, f .settles) (sym (turn-on (a .stage) (a .leading) (now (a .ours)) (settledOf (l .seen) (l .values)) (take (l .count) (l .out)) b (l .at) (64 - (l .n + 1)) (g .end) h (f .ended) (sym (f .stops) ∙ c .before .enum-told .given .1)) ∙ rw n at (l .inv .6)),
     )
 
-same-length-2 : tie.Need-same-length-2 Inv-loop μ-loop
-same-length-2 c = c .before .loop .inv .2
+same-length-7 : tie.Need-same-length-7 Inv-loop μ-loop
+same-length-7 c = c .before .loop .inv .3
 
-returns-2 : tie.Need-returns-2 Inv-loop μ-loop
+same-length-8 : tie.Need-same-length-8 Inv-loop μ-loop
+same-length-8 c = c .before .loop .inv .2
+
+returns-4 : tie.Need-returns-4 Inv-loop μ-loop
 unfolding judge
-returns-2 c =
+returns-4 c =
     let l = c .before .loop in
-    let g = c .before .before .before .before .before in
-    let e : pairs (64 - l .n) (drop (l .at) (now (g .args .block))) ≡ [] = pairs-end (now (g .args .block)) (l .at) (64 - l .n) (omega arith) in
-    record { result = rw e at (l .inv .5); few = omega (arith, l .inv .3, l .inv .2, g .pre .1) }
+    let g = c .before .before .before .before .before .before in
+    let b = now (g .args .block) in
+    let e : pairs (64 - l .n) (drop (l .at) b) ≡ [] = pairs-end b (l .at) (64 - l .n) (omega arith) in
+    let f : formed 64 b ≡ true = sym (l .inv .5) ∙ formed-end (64 - l .n) b (l .at) (omega arith) in
+    record { result = rw e at (l .inv .6) ∙ sym (here (formed 64 b) _ _ f); few = omega (arith, l .inv .4, l .inv .2, l .inv .1, g .pre) }
 
 pub judge-block-spec : {M : Type 1} → statement M
 judge-block-spec =
@@ -118,18 +161,27 @@ judge-block-spec =
     Inv-loop
     μ-loop
     loop-holds
+    same-length
+    same-length-2
+    returns
     sub-judge-first
     part-judge-first-start
     part-judge-first-end
     judge-first-requires
+    same-length-3
+    same-length-4
+    returns-2
     enum-known-stop
-    same-length
-    returns
+    pair-status-requires
+    same-length-5
+    same-length-6
+    returns-3
     enum-told
     add-at
     add-at-2
     add-n
     loop-less
     loop-again
-    same-length-2
-    returns-2)
+    same-length-7
+    same-length-8
+    returns-4)

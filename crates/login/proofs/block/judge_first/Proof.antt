@@ -1,46 +1,94 @@
-use lib.Seq.{length-take-le}
-use Rattle.text.specs.Block.{nameIn}
-use Rattle.text.proofs.Laws.{ends-name, ends-value, name-short}
+use Rattle.text.specs.Text.{bytes}
+use Rattle.text.specs.Block.{nameIn, valueIn, goodFirst, wholeFirst, goodName}
+use Rattle.text.proofs.Laws.{good-first, cut-value, cut-start, name-short, false-true, &&-right}
 use Rattle.keys.specs.Table.{keyOf}
+use Rattle.keys.specs.Judge.{judgeAt, settledOf}
+use Rattle.keys.specs.Answer.{answerText}
 use Rattle.keys.proofs.Said.{said-length}
 use Rattle.login.specs.Block.{judgeFirst}
-use mathlib.Core.Path.{_≡_, sym}
-use Prim.Native.Nat.{_-_}
+use lib.Seq.{length-take-le}
+use lib.ListN.{length, take}
+use mathlib.Core.Path.{_≡_, sym, _∙_}
+use mathlib.Core.Bool.{true, false}
+use Prim.Native.Nat.{_-_, _+_, _≤_, _<_}
 use native.Mathlib.Omega.{arith}
+use borrow.Author.Tests.{not-true, not-false}
 use denote.Ref.{now}
 use borrow.Author.Needs.{needs}
 use Rattle.login.proofs.block.judge_first.Statement.{statement}
 use Rattle.login.proofs.block.judge_first.Tie as tie
 
-slice-aggregate-name : tie.Need-slice-aggregate-name
-slice-aggregate-name c = let p = c .before .ends-of .ensures in sym (length-take-le _ _ (omega (arith, p .name, p .value, p .inside)))
+-- where a good pair's name and value end
+module _ (c : tie.Else1) where
+  ok : c .before .before .pair-in .result .ok ≡ true
+  ok = not-false _ (c .if1 .left)
+
+  ends : (c .before .before .pair-in .result .eq + 1 ≤ c .before .before .pair-in .result .end) × (c .before .before .pair-in .result .end < length (now (c .before .before .before .before .before .before .before .args .rest)))
+  ends = let p = c .before .before .pair-in .ensures in (omega (arith, p .name ok, p .value ok), p .inside ok)
+
+returns : tie.Need-returns
+returns c = record { right = sym (not-true _ (c .if1 .taken)) ∙ c .before .before .pair-in .ensures .right; good = λ e. false-true e }
+
+add-judge-pair : tie.Need-add-judge-pair
+add-judge-pair c = omega (arith, ends (c .before), c .before .before .before .before .before .before .before .before .good .1 .1 .1 .1 .1 .0)
+
+sub-judge-pair : tie.Need-sub-judge-pair
+sub-judge-pair c = omega (arith, ends (c .before))
+
+part-judge-pair-start : tie.Need-part-judge-pair-start
+part-judge-pair-start c = omega (arith, ends (c .before))
+
+part-judge-pair-end : tie.Need-part-judge-pair-end
+part-judge-pair-end c = omega (arith, ends (c .before))
+
+judge-pair-requires : tie.Need-judge-pair-requires
+judge-pair-requires c κs = c .before .before .before .before .pair-in .ensures .known
+
+settle-pair-requires : tie.Need-settle-pair-requires
+settle-pair-requires c κs = c .before .before .before .before .before .before .before .pair-in .ensures .known
+
+add-put-said : tie.Need-add-put-said
+add-put-said c = omega (arith, ends (c .before .before .before .before .before .before .before .before .before), c .before .before .before .before .before .before .before .before .before .before .before .before .before .before .before .before .good .1 .1 .1 .1 .1 .0)
+
+slice-aggregate-put-said : tie.Need-slice-aggregate-put-said
+slice-aggregate-put-said c = sym (length-take-le _ _ (omega (arith, ends (c .before .before .before .before .before .before .before .before .before .before))))
 
 put-said-requires : tie.Need-put-said-requires
 put-said-requires c κs =
-    let p = c .before .before .before .before .before .before .ends-of .ensures in
-    let g = c .before .before .before .before .before .before .before .before .before .before in
-    (rw (ends-name p) (name-short (now (g .args .rest)) (g .pre .0)), g .pre .1)
+    let g = c .before .before .before .before .before .before .before .before .before .before .before .before .before .before .before .before .before in
+    let p = c .before .before .before .before .before .before .before .before .before .before .before .before .pair-in .ensures in
+    let o = ok (c .before .before .before .before .before .before .before .before .before .before) in
+    let n : length (nameIn (now (g .args .rest))) ≤ 63 = name-short (now (g .args .rest)) (sym (p .right) ∙ o) in
+    let m : length (take (c .before .before .before .before .before .before .before .before .before .before .before .before .pair-in .result .eq + 1) (now (g .args .rest))) ≡ c .before .before .before .before .before .before .before .before .before .before .before .before .pair-in .result .eq + 1 = length-take-le _ _ (omega (arith, ends (c .before .before .before .before .before .before .before .before .before .before))) in
+    (omega (arith, m, n, p .name o), g .pre)
 
-returns : tie.Need-returns
-returns c =
-    let p = c .before .before .before .before .before .before .before .before .before .before .ends-of .ensures in
-    let g = c .before .before .before .before .before .before .before .before .before .before .before .before .before .before in
+returns-2 : tie.Need-returns-2
+unfolding judgeAt answerText
+returns-2 c =
+    let g = c .before .before .before .before .before .before .before .before .before .before .before .before .before .before .before .before .before .before .before .before .before in
+    let p = c .before .before .before .before .before .before .before .before .before .before .before .before .before .before .before .before .pair-in .ensures in
+    let o = ok (c .before .before .before .before .before .before .before .before .before .before .before .before .before .before) in
     let rest = now (g .args .rest) in
-    let k : c .before .before .before .before .before .before .before .key-of .result ≡ keyOf (nameIn rest) = rw (← (ends-name p)) (c .before .before .before .before .before .before .before .key-of .ensures .0) in
-    let j : c .before .before .before .before .before .before .judge-pair .result ≡ judgeFirst (g .args .stage) (g .args .leading) (now (g .args .ours)) (g .args .s) rest = rw (← k, ← (ends-value p)) (c .before .before .before .before .before .before .judge-pair .ensures) in
-    let a = rw (ends-name p, j) at (c .before .before .before .put-said .ensures) in
+    let s = settledOf (now (g .args .seen)) (now (g .args .values)) in
+    let f : goodFirst rest ≡ true = sym (p .right) ∙ o in
+    let w : wholeFirst rest ≡ true = &&-right (goodName (nameIn rest)) _ (sym (good-first rest) ∙ f) in
+    let j : c .before .before .before .before .before .before .before .before .before .before .before .judge-pair .result ≡ judgeFirst (g .args .stage) (g .args .leading) (now (g .args .ours)) s rest = rw (← (p .key o), ← (cut-value rest (p .name o) (p .value o))) (c .before .before .before .before .before .before .before .before .before .before .before .judge-pair .ensures) in
+    let a = rw (cut-start rest (p .name o) (p .value o) w, j) at (c .before .before .before .put-said .ensures) in
     record {
-      stops = rw (← j) (c .stop-of .ensures);
-      settles = rw (← j, ← k) (c .before .before .before .before .before .settled-after .ensures);
-      text = a;
-      few = omega (arith, a .count, said-length (nameIn rest) (judgeFirst (g .args .stage) (g .args .leading) (now (g .args .ours)) (g .args .s) rest) (name-short rest (g .pre .0)));
-      ended = p .value;
-      inside = p .inside;
+      right = sym f;
+      good = λ e. record {
+        stops = rw (← j) (c .stop-of .ensures);
+        settles = rw (← j, ← (p .key o)) (c .before .before .before .before .before .before .before .before .settle-pair .ensures);
+        text = a;
+        few = omega (arith, a .count, said-length (nameIn rest) (judgeFirst (g .args .stage) (g .args .leading) (now (g .args .ours)) s rest) (name-short rest f));
+        ended = p .value o;
+        inside = p .inside o;
+      };
     }
 
 pub judge-first-spec : {M : Type 1} → statement M
 judge-first-spec =
     tie.close (tie.spec
-    (λ c κs. search needs) slice-aggregate-name (λ c. search needs) (λ c. search needs) (λ c. search needs)
-    (λ c. search needs) (λ c κs. search needs) (λ c κs. search needs) (λ c κs. search needs) put-said-requires
-    (λ c κs. search needs) (λ c. search needs) returns)
+    (λ c κs. search needs) returns add-judge-pair sub-judge-pair part-judge-pair-start part-judge-pair-end
+    judge-pair-requires settle-pair-requires add-put-said slice-aggregate-put-said put-said-requires
+    (λ c κs. search needs) (λ c. search needs) (λ c. search needs) returns-2)

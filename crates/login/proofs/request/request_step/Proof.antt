@@ -1,6 +1,7 @@
 use Rattle.text.proofs.Laws.{past, here, quiet, loud, appended-whole}
 use Rattle.login.specs.Login.{requestStep}
 use Rattle.login.proofs.Area.{status-fits}
+use Rattle.login.proofs.Answers.{judged-is}
 use mathlib.Core.Path.{refl, sym, _∙_}
 use Prim.Native.Nat.{_≤_, _-_, _+_}
 use native.Mathlib.Omega.{arith}
@@ -30,20 +31,23 @@ gathered-step-requires c κs = omega (arith, fits-at (c .before .before .before 
 
 returns-3 : tie.Need-returns-3
 unfolding requestStep
-returns-3 c = rw (c .gathered-step .ensures, c .before .before .before .append .ensures .count, appended-whole (c .before .before .before .append .ensures))
+returns-3 c =
+    rw (c .gathered-step .ensures, c .before .before .before .append .ensures .count, appended-whole (c .before .before .before .append .ensures))
     (sym (past _ _ _ _ (ne-eqb _ _ (c .before .before .before .before .before .before .before .before .before .if1 .left)) (past _ _ _ _ (quiet _ _ (c .before .before .before .before .before .before .before .before .status-of .ensures) (c .before .before .before .before .before .before .before .if2 .left)) (here _ _ _ (c .before .before .before .before .before .before .if3 .taken)))))
 
 judge-request-requires : tie.Need-judge-request-requires
-judge-request-requires c κs = (c .before .before .before .before .before .before .before .before .before .before .pre .0, c .before .before .before .before .before .before .before .before .before .before .pre .1, fits-at (c .before .before .before))
+judge-request-requires c κs = (c .before .before .before .before .before .before .before .before .before .before .before .before .before .pre .0, c .before .before .before .before .before .before .before .before .before .before .before .before .before .pre .1, fits-at (c .before .before .before .before .before .before))
 
 returns-4 : tie.Need-returns-4
 unfolding requestStep
-returns-4 c = c .before .before .before .before .judge-request .ensures
-    ∙ sym (past _ _ _ _ (ne-eqb _ _ (c .before .before .before .before .before .before .before .before .before .before .if1 .left)) (past _ _ _ _ (quiet _ _ (c .before .before .before .before .before .before .before .before .before .status-of .ensures) (c .before .before .before .before .before .before .before .before .if2 .left)) (past _ _ _ _ (c .before .before .before .before .before .before .before .if3 .left) (refl))))
+returns-4 c =
+    let g = c .before .before .before .before .before .before .before .before .before .before .before .before .before .before .before .before .before .before .before .args in
+    rw (c .finish .ensures) (judged-is (g .l) (g .q) (g .new) _ _ _ _ _ _ _ (c .before .before .before .before .before .judge-request .ensures))
+    ∙ sym (past _ _ _ _ (ne-eqb _ _ (c .before .before .before .before .before .before .before .before .before .before .before .before .before .before .if1 .left)) (past _ _ _ _ (quiet _ _ (c .before .before .before .before .before .before .before .before .before .before .before .before .before .status-of .ensures) (c .before .before .before .before .before .before .before .before .before .before .before .before .if2 .left)) (past _ _ _ _ (c .before .before .before .before .before .before .before .before .before .before .before .if3 .left) refl)))
 
 pub request-step-spec : {M : Type 1} → statement M
 request-step-spec =
     tie.close (tie.spec
     (λ c κs. search needs) returns (λ c κs. search needs) (λ c κs. search needs) returns-2 (λ c. search needs)
-    append-requires gathered-step-requires (λ c. search needs) returns-3 judge-request-requires (λ c. search needs)
-    (λ c. search needs) returns-4)
+    append-requires gathered-step-requires (λ c. search needs) returns-3 (λ c. search needs) judge-request-requires
+    (λ c κs. search needs) (λ c. search needs) (λ c. search needs) returns-4)

@@ -1,48 +1,41 @@
--- The name ends at the first =, and what follows it is the tail; the value ends at the tail's first zero byte.
+-- The form is good if that of the name is, beside the rest.
 use mathlib.Core.Path.{_≡_, sym, ap, _∙_}
-use mathlib.Core.Bool.{true, false, _&&_}
-use Prim.Native.Nat.{_≤_, _<_, _-_, _+_}
+use mathlib.Core.Bool.{true, false}
+use Prim.Native.Nat.{_≤_, _-_}
 use native.Mathlib.Omega.{arith}
 use borrow.Author.Needs.{needs}
-use borrow.Author.Tests.{lt-ltb, le-ltb, ltb-true}
-use lib.ListN.{length, take, drop}
-use lib.Dec.{ltb, leb}
+use borrow.Author.Tests.{not-true, not-false}
 use denote.Ref.{now}
 use lib.Seq.{length-take-le}
-use Rattle.text.specs.Text.{before, after, has}
-use Rattle.text.specs.Block.{goodFirst, goodName}
-use Rattle.text.proofs.Laws.{has-before, take-before, drop-before, rest-part, &&-false, &&-true, &&-right, false-true, length-after}
+use Rattle.text.specs.Block.{nameIn, wholeFirst, goodName}
+use Rattle.text.proofs.Laws.{good-first, cut-name, &&-false, &&-true, false-true}
 use Rattle.text.proofs.block.first_pair.Statement.{statement}
 use Rattle.text.proofs.block.first_pair.Tie as tie
 
 returns : tie.Need-returns
-unfolding goodFirst
 returns c =
-    let s = now (c .before .before .before .args .s) in
-    let e : length s ≤ length (before 61 s) = omega (arith, c .before .find .ensures) in
-    let h : has 61 s ≡ false = has-before 61 s ∙ le-ltb _ _ e in
-    record { right = rw (h, &&-false); name = λ e. false-true e; value = λ e. false-true e; inside = λ e. false-true e }
+    let s = now (c .before .before .before .before .args .s) in
+    let p = c .before .before .cut-pair in
+    let n : p .result .ok ≡ false = not-true _ (c .if1 .taken) in
+    let w : wholeFirst s ≡ false = sym (p .ensures .right) ∙ n in
+    record { right = n ∙ sym (good-first s ∙ rw w (&&-false (goodName (nameIn s)))); name = λ e. false-true (sym n ∙ e); value = λ e. false-true (sym n ∙ e); inside = λ e. false-true (sym n ∙ e) }
 
 slice-aggregate-name-good : tie.Need-slice-aggregate-name-good
-slice-aggregate-name-good c = sym (length-take-le _ _ (c .before .before .before .before .find .ensures .1))
+slice-aggregate-name-good c =
+    let p = c .before .before .before .cut-pair in
+    let ok = not-false _ (c .before .if1 .left) in
+    sym (length-take-le _ _ (omega (arith, p .ensures .name ok, p .ensures .value ok, p .ensures .inside ok)))
 
 returns-2 : tie.Need-returns-2
-unfolding goodFirst
 returns-2 c =
-    let s = now (c .before .before .before .before .before .before .before .args .s) in
-    let f = c .before .before .before .before .before .find in
-    let q : f .result ≡ length (before 61 s) = f .ensures .0 in
-    let lt : f .result < length s = omega (arith, f .ensures .1) in
-    let tail : take (length s - (f .result + 1)) (drop (f .result + 1) s) ≡ after 61 s = rest-part (f .result + 1) s ∙ rw q (drop-before 61 s) in
-    let h : has 61 s ≡ true = has-before 61 s ∙ rw (← q) (lt-ltb _ _ lt) in
-    let n : c .before .before .find2 .result ≡ length (before 0 (after 61 s)) = rw (← tail) (c .before .before .find2 .ensures .0) in
-    let z : has 0 (after 61 s) ≡ ltb (c .before .before .find2 .result) (length (after 61 s)) = rw n (has-before 0 (after 61 s)) in
-    let g : c .name-good .result ≡ goodName (before 61 s) = c .name-good .ensures ∙ ap goodName (rw q (take-before 61 s)) in
-    record { right = rw (g, h, z, ← n, tail, &&-true); name = λ e. q; value = λ e. omega (arith, q, n); inside = λ e. let w : c .before .before .find2 .result < length (after 61 s) = ltb-true _ _ (&&-right (c .name-good .result && leb (c .before .before .find2 .result) 255) _ (rw tail at e)) in omega (arith, w, length-after 61 s, q) }
+    let s = now (c .before .before .before .before .before .before .args .s) in
+    let p = c .before .before .before .before .cut-pair in
+    let ok : p .result .ok ≡ true = not-false _ (c .before .before .if1 .left) in
+    let w : wholeFirst s ≡ true = sym (p .ensures .right) ∙ ok in
+    let n : c .name-good .result ≡ goodName (nameIn s) = c .name-good .ensures ∙ ap goodName (cut-name s (p .ensures .name ok) (p .ensures .value ok)) in
+    record { right = n ∙ sym (good-first s ∙ rw w (&&-true (goodName (nameIn s)))); name = λ e. p .ensures .name ok; value = λ e. p .ensures .value ok; inside = λ e. p .ensures .inside ok }
 
 pub first-pair-spec : {M : Type 1} → statement M
 first-pair-spec =
     tie.close (tie.spec
-    (λ c κs. search needs) returns (λ c. search needs) (λ c. search needs) (λ c. search needs) (λ c. search needs)
-    (λ c κs. search needs) slice-aggregate-name-good (λ c κs. search needs) (λ c. search needs) (λ c. search needs)
-    returns-2)
+    (λ c κs. search needs) returns slice-aggregate-name-good (λ c κs. search needs) returns-2)

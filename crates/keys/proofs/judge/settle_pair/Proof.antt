@@ -1,0 +1,34 @@
+use Rattle.keys.specs.Judge.{after}
+use lib.Seq.{set-out}
+use Prim.Native.Nat.{_-_}
+use borrow.Author.Tests.{eq-eqb, ne-eqb}
+use borrow.Author.Needs.{needs}
+use denote.Ref.{now}
+use Rattle.keys.proofs.judge.settle_pair.Statement.{statement}
+use Rattle.keys.proofs.judge.settle_pair.Tie as tie
+
+returns : tie.Need-returns
+unfolding after
+returns c = rw (eq-eqb _ _ (c .if1 .taken))
+
+returns-2 : tie.Need-returns-2
+unfolding after
+returns-2 c = rw (ne-eqb _ _ (c .before .before .if1 .left), c .enum-told .given .1)
+
+returns-3 : tie.Need-returns-3
+unfolding after
+returns-3 c = rw (ne-eqb _ _ (c .before .before .before .before .if1 .left), c .before .before .enum-told2 .given .1, c .mark .ensures)
+
+returns-4 : tie.Need-returns-4
+unfolding after
+returns-4 c = rw (ne-eqb _ _ (c .before .before .before .before .before .before .if1 .left), c .before .before .before .before .j .given .1, c .before .mark2 .ensures)
+
+returns-5 : tie.Need-returns-5
+unfolding after
+returns-5 c = rw (ne-eqb _ _ (c .before .before .before .before .before .before .if1 .left), c .before .before .before .before .j .given .1, c .before .mark2 .ensures, set-out (now (c .before .before .before .before .before .before .before .before .args .values)) _ _ (c .if2 .left))
+
+pub settle-pair-spec : {M : Type 1} → statement M
+settle-pair-spec =
+    tie.close (tie.spec
+    returns (λ c. search needs) (λ c. search needs) (λ c κs. search needs) (λ c. search needs) (λ c κs. search needs)
+    (λ c. search needs) (λ c. search needs) returns-2 returns-3 (λ c. search needs) returns-4 returns-5)
