@@ -13,6 +13,7 @@ use Rattle.login.specs.Login.{startText, answerOf, named, joined, withGa
 use Rattle.login.specs.Code.{finishStep, withNames, blockResult, verdictAfter, textAfter, textOf, Written, undone, judgedBlock, judgedArea, areaOf, JudgedIn, loginIn, foundStep, endOf, ReadAs, FoundAs}
 use Rattle.login.specs.Block.{judge, Result, stopped, went, resultOf, countOf, JudgedAs}
 use Rattle.login.specs.declared.state.State.{State}
+use Rattle.login.specs.declared.state.Step.{Step}
 use Rattle.login.specs.declared.block.Verdict.{Verdict}
 use Rattle.login.specs.declared.block.Verdict.the-variants as D
 use Rattle.login.specs.declared.block.Judged.{Judged}
@@ -112,7 +113,7 @@ step-go l q new s (D.Refused x) t t' g h e = rw (← e)
 step-go l q new s (D.Answered n) t t' g h e = rw (← e)
 
 -- a judged block, answered, is the step of the rules
-pub judged-is : (l : State) (q : Login) (new : ℕ) (ours d : List ℕ) (j : Judged) (g t g' t' : List ℕ) → JudgedIn (l .judged) (q .csg) (eqb (q .tsih) 0) ours (l .settled) (l .gathered) d j g t g' t'
+judged-is : (l : State) (q : Login) (new : ℕ) (ours d : List ℕ) (j : Judged) (g t g' t' : List ℕ) → JudgedIn (l .judged) (q .csg) (eqb (q .tsih) 0) ours (l .settled) (l .gathered) d j g t g' t'
     → _≡_ {A = Outcome} (record { state = finishStep l q new (j .settled) (j .verdict) .state; answer = answerOf (finishStep l q new (j .settled) (j .verdict) .answer) t'; gather = g'; text = t' }) (judgeStep l q new ours d g t)
 unfolding judgeStep
 judged-is l q new ours d j g t g' t' x =
@@ -126,6 +127,15 @@ judged-is l q new ours d j g t g' t' x =
     ∙ ap (λ (y : Result). withGather g h (resultStep l q new t y)) (w .result)
     ∙ ap (withGather g h) (text-step l q new ours b t)
     ∙ area-step l q new ours d g t (eqb (l .gathered) 0)
+
+-- A code's step, with what the areas hold after it.
+pub step-outcome : (r s : Step) (g t : List ℕ) → r ≡ s → _≡_ {A = Outcome} (record { state = r .state; answer = answerOf (r .answer) t; gather = g; text = t }) (record { state = s .state; answer = answerOf (s .answer) t; gather = g; text = t })
+step-outcome r s g t e = rw e
+
+pub judged-step : (r : Step) (l : State) (q : Login) (new : ℕ) (ours d : List ℕ) (j : Judged) (g t g' t' : List ℕ) → r ≡ finishStep l q new (j .settled) (j .verdict)
+    → JudgedIn (l .judged) (q .csg) (eqb (q .tsih) 0) ours (l .settled) (l .gathered) d j g t g' t'
+    → _≡_ {A = Outcome} (record { state = r .state; answer = answerOf (r .answer) t'; gather = g'; text = t' }) (judgeStep l q new ours d g t)
+judged-step r l q new ours d j g t g' t' e x = step-outcome r _ g' t' e ∙ judged-is l q new ours d j g t g' t' x
 
 -- A refusal of reading has no status: its number is not 6.
 reading-go : (b1 b2 b3 b4 b5 : Bool) (p : Pdu) → pick b1 (Read.refused 4) (pick b2 (Read.refused 2) (pick b3 (Read.refused 5) (pick b4 (Read.refused 4) (pick b5 (Read.got p) (Read.refused 3))))) ≡ Read.refused 6 → ⊥

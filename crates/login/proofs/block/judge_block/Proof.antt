@@ -47,6 +47,14 @@ returns c =
     let f : formed 64 b ≡ false = sym (rw e at (l .inv .5)) ∙ formed-none b (l .at) (omega arith) in
     record { result = sym (past (formed 64 b) _ _ _ f refl); few = omega arith }
 
+-- what the first pair of what is left gave
+module _ (c : tie.After-judge-first Inv-loop μ-loop) where
+  right : c .judge-first .result .ok ≡ goodFirst (drop (c .before .before .before .before .before .before .before .loop .at) (now (c .before .before .before .before .before .before .before .before .before .before .before .before .args .block)))
+  right = rw rest-part at (c .judge-first .ensures .right)
+
+  first : c .judge-first .result .ok ≡ true → (let l = c .before .before .before .before .before .before .before .loop in let a = c .before .before .before .before .before .before .before .before .before .before .before .before .args in FirstGood (settledOf (l .seen) (l .values)) (a .stage) (a .leading) (now (a .ours)) (drop (l .at) (now (a .block))) (l .out) (l .count) (c .judge-first .result) (settledOf (c .judge-first .last .0) (c .judge-first .last .1 .0)) (c .judge-first .last .1 .1 .1 .1 .1 .1 .0))
+  first ok = rw rest-part at (c .judge-first .ensures .good ok)
+
 sub-judge-first : tie.Need-sub-judge-first Inv-loop μ-loop
 sub-judge-first c = search needs
 
@@ -71,7 +79,7 @@ returns-2 : tie.Need-returns-2 Inv-loop μ-loop
 returns-2 c =
     let l = c .before .before .before .before .before .before .before .before .before .before .before .before .before .loop in
     let b = now (c .before .before .before .before .before .before .before .before .before .before .before .before .before .before .before .before .before .before .args .block) in
-    let g : goodFirst (drop (l .at) b) ≡ false = rw rest-part at (sym (c .before .before .before .before .before .before .judge-first .ensures .right) ∙ not-true _ (c .if2 .taken)) in
+    let g : goodFirst (drop (l .at) b) ≡ false = sym (right (c .before .before .before .before .before .before)) ∙ not-true _ (c .if2 .taken) in
     let f : formed 64 b ≡ false = sym (l .inv .5) ∙ formed-bad b (l .at) (omega arith) (64 - l .n) g in
     record { result = sym (past (formed 64 b) _ _ _ f refl); few = omega arith }
 
@@ -92,7 +100,7 @@ returns-3 c =
     let l = c .before .before .before .before .before .before .before .before .before .before .before .before .before .before .before .before .before .loop in
     let a = c .before .before .before .before .before .before .before .before .before .before .before .before .before .before .before .before .before .before .before .before .before .before .args in
     let b = now (a .block) in
-    let f = rw rest-part at (c .before .before .before .before .before .before .before .before .before .before .judge-first .ensures .good (not-false _ (c .before .before .before .before .if2 .left))) in
+    let f = first (c .before .before .before .before .before .before .before .before .before .before) (not-false _ (c .before .before .before .before .if2 .left)) in
     let n : 64 - l .n ≡ suc (64 - (l .n + 1)) = omega (arith, l .inv .1, c .before .before .before .before .before .before .before .before .before .before .before .before .before .before .before .if1 .left) in
     let e = sym (turn-stop (a .stage) (a .leading) (now (a .ours)) (settledOf (l .seen) (l .values)) (take (l .count) (l .out)) b (l .at) (64 - (l .n + 1)) (c .before .before .before .before .before .before .before .before .before .before .judge-first .result .end) (omega arith) (f .ended) _ (sym (f .stops) ∙ c .before .before .stop .given .1)) ∙ rw n at (l .inv .6) in
     record { result = ap stopped (c .pair-status .ensures) ∙ stop-status (formed 64 b) _ _ e; few = omega arith }
@@ -103,7 +111,7 @@ enum-told c = search needs
 -- a good pair lies within the block
 inside : (c : tie.After-struct-known2 Inv-loop μ-loop) → c .before .before .before .before .before .before .before .before .before .before .before .before .before .before .before .before .loop .at + c .before .before .before .before .before .before .before .before .before .judge-first .result .end < length (now (c .before .before .before .before .before .before .before .before .before .before .before .before .before .before .before .before .before .before .before .before .before .args .block))
 inside c =
-    let f = rw rest-part at (c .before .before .before .before .before .before .before .before .before .judge-first .ensures .good (not-false _ (c .before .before .before .if2 .left))) in
+    let f = first (c .before .before .before .before .before .before .before .before .before) (not-false _ (c .before .before .before .if2 .left)) in
     omega (arith, f .inside, length-drop (c .before .before .before .before .before .before .before .before .before .before .before .before .before .before .before .before .loop .at) (now (c .before .before .before .before .before .before .before .before .before .before .before .before .before .before .before .before .before .before .before .before .before .args .block)))
 
 add-at : tie.Need-add-at Inv-loop μ-loop
@@ -125,9 +133,9 @@ loop-again c =
     let b = now (a .block) in
     let g = c .before .before .before .before .before .before .before .before .before .judge-first .result in
     let ok : g .ok ≡ true = not-false _ (c .before .before .before .if2 .left) in
-    let f = rw rest-part at (c .before .before .before .before .before .before .before .before .before .judge-first .ensures .good ok) in
+    let f = first (c .before .before .before .before .before .before .before .before .before) ok in
     let h : l .at < length b = omega arith in
-    let w : goodFirst (drop (l .at) b) ≡ true = rw rest-part at (sym (c .before .before .before .before .before .before .before .before .before .judge-first .ensures .right) ∙ ok) in
+    let w : goodFirst (drop (l .at) b) ≡ true = sym (right (c .before .before .before .before .before .before .before .before .before)) ∙ ok in
     let n : 64 - l .n ≡ suc (64 - (l .n + 1)) = omega (arith, l .inv .1, c .before .before .before .before .before .before .before .before .before .before .before .before .before .before .if1 .left) in (
       omega (arith, inside c),
       omega (arith, l .inv .1, c .before .before .before .before .before .before .before .before .before .before .before .before .before .before .if1 .left),

@@ -1,3 +1,4 @@
+use Rattle.login.proofs.Answers.{step-outcome}
 use Rattle.login.specs.Code.{foundStep, endOf, isLogin}
 use Rattle.login.specs.declared.request.Found.{Found}
 use mathlib.Core.Path.{_≡_, refl, sym, ap, _∙_, subst}
@@ -32,8 +33,8 @@ request-step-requires c κs = c .before .before .before .before .before .before 
 returns : tie.Need-returns
 returns c =
     let a = c .before .before .before .before .before .before .before .before .before .args in
-    rw (c .refuse .ensures)
-    (ap (λ (x : Found). foundStep x (a .l) (now (a .pdu)) (a .live) (a .new) (now (a .ours)) (now (a .gather)) (now (a .text))) (sym (c .before .before .f .given .1)) ∙ c .before .before .before .before .find-login .ensures .step (a .l) (a .live) (a .new) _ _ _ refl refl refl)
+    step-outcome _ _ _ _ (c .refuse .ensures)
+    ∙ ap (λ (x : Found). foundStep x (a .l) (now (a .pdu)) (a .live) (a .new) (now (a .ours)) (now (a .gather)) (now (a .text))) (sym (c .before .before .f .given .1)) ∙ c .before .before .before .before .find-login .ensures .step (a .l) (a .live) (a .new) _ _ _ refl refl refl
 
 returns-2 : tie.Need-returns-2
 returns-2 c =

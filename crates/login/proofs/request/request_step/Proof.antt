@@ -1,7 +1,7 @@
 use Rattle.text.proofs.Laws.{past, here, quiet, loud, appended-whole}
 use Rattle.login.specs.Login.{requestStep}
 use Rattle.login.proofs.Area.{status-fits}
-use Rattle.login.proofs.Answers.{judged-is}
+use Rattle.login.proofs.Answers.{step-outcome, judged-step}
 use mathlib.Core.Path.{refl, sym, _∙_}
 use Prim.Native.Nat.{_≤_, _-_, _+_}
 use native.Mathlib.Omega.{arith}
@@ -17,7 +17,7 @@ fits-at c = let g = c .before .before .before .before .before .before .before .a
 
 returns : tie.Need-returns
 unfolding requestStep
-returns c = rw (c .refuse .ensures) (sym (here _ _ _ (eq-eqb _ _ (c .before .if1 .taken))))
+returns c = step-outcome _ _ _ _ (c .refuse .ensures) ∙ sym (here _ _ _ (eq-eqb _ _ (c .before .if1 .taken)))
 
 returns-2 : tie.Need-returns-2
 unfolding requestStep
@@ -42,7 +42,7 @@ returns-4 : tie.Need-returns-4
 unfolding requestStep
 returns-4 c =
     let g = c .before .before .before .before .before .before .before .before .before .before .before .before .before .before .before .before .before .before .before .args in
-    rw (c .finish .ensures) (judged-is (g .l) (g .q) (g .new) _ _ _ _ _ _ _ (c .before .before .before .before .before .judge-request .ensures))
+    judged-step _ (g .l) (g .q) (g .new) _ _ _ _ _ _ _ (c .finish .ensures) (c .before .before .before .before .before .judge-request .ensures)
     ∙ sym (past _ _ _ _ (ne-eqb _ _ (c .before .before .before .before .before .before .before .before .before .before .before .before .before .before .if1 .left)) (past _ _ _ _ (quiet _ _ (c .before .before .before .before .before .before .before .before .before .before .before .before .before .status-of .ensures) (c .before .before .before .before .before .before .before .before .before .before .before .before .if2 .left)) (past _ _ _ _ (c .before .before .before .before .before .before .before .before .before .before .before .if3 .left) refl)))
 
 pub request-step-spec : {M : Type 1} → statement M
