@@ -1,4 +1,1 @@
 pub mod Pdu
-pub mod State
-pub mod Answer
-pub mod Login

@@ -1,14 +1,5 @@
 // The session's calls for C. A session is its numbers and maps, and the arrays of headers and tickets; each call is lent what it
 // touches, and leaves its answer in four words.
-use crate::answers;
-use crate::answers::DONE;
-use crate::answers::IMMEDIATE;
-use crate::state::close;
-use crate::state::hold;
-use crate::state::load;
-use crate::state::store;
-use crate::state::store_ledger;
-use crate::state::store_window;
 use refusal::Refusal;
 use response_header::Response;
 use session::command::OfferAnswer;
@@ -17,14 +8,23 @@ use session::connection::LogoutAnswer;
 use session::connection::OpenAnswer;
 use session::status::AcknowledgeAnswer;
 use session::status::SendAnswer;
+use state_words::answers;
+use state_words::answers::DONE;
+use state_words::answers::IMMEDIATE;
+use state_words::state::close;
+use state_words::state::hold;
+use state_words::state::load;
+use state_words::state::store;
+use state_words::state::store_ledger;
+use state_words::state::store_window;
 use words::response::Made;
 use words::response::response;
 ghost use mathlib.Core.List.{List, []};
 ghost use Prim.Native.Nat.{ℕ};
 ghost use Rattle.session.specs.Book.{Call};
 ghost use Rattle.session.specs.Agree.{state};
-ghost use Rattle.capi.specs.State.{sessionOf};
-ghost use Rattle.capi.specs.Answer.{Said, SaidSend, Fresh};
+ghost use Rattle.state_words.specs.State.{sessionOf};
+ghost use Rattle.state_words.specs.Answer.{Said, SaidSend, Fresh};
 ghost use Rattle.words.specs.Words.{responseOf};
 
 // Offers a whole PDU with its ticket on a connection.

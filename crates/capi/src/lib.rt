@@ -1,7 +1,5 @@
 // Drawbevel for C. Each function takes numbers, slices (a pointer and a length) and arrays of fixed size; include/drawbevel.h
 // declares them and has the structs that these arrays are.
-mod answers;
 pub mod calls;
 pub mod logins;
 pub mod pdu;
-mod state;

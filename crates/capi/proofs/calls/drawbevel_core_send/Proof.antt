@@ -1,5 +1,5 @@
 use mathlib.Core.Path.{refl}
-use Rattle.capi.specs.Answer.{SaidSend}
+use Rattle.state_words.specs.Answer.{SaidSend}
 use borrow.Author.Needs.{needs}
 use Rattle.capi.proofs.calls.drawbevel_core_send.Statement.{statement}
 use Rattle.capi.proofs.calls.drawbevel_core_send.Tie as tie
