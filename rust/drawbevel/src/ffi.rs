@@ -46,15 +46,15 @@ pub struct LoginParts {
     seen: Seen,
 }
 
-/// The PDU's words, or a refusal's number.
+/// What `taken` makes of the PDU's words where they stand, or a refusal's number.
 #[inline]
-pub fn read(input: &[u8]) -> Result<PduWords, u32> {
+pub fn read<T>(input: &[u8], taken: impl FnOnce(&PduWords) -> T) -> Result<T, u32> {
     let mut pdu = MaybeUninit::uninit();
     // SAFETY: pointer and length are those of one slice, and both references live through the call, which reads no word
     // and has written all of them where it answers 0.
     unsafe {
         match drawbevel_core_read(input.as_ptr(), input.len(), pdu.as_mut_ptr()) {
-            0 => Ok(pdu.assume_init()),
+            0 => Ok(taken(pdu.assume_init_ref())),
             number => Err(number),
         }
     }

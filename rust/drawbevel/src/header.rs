@@ -7,10 +7,7 @@ use calls::{Numbers, Pdu, Refusal, Response};
 /// Read a whole PDU.
 #[inline]
 pub fn read(input: &[u8]) -> Result<Pdu, Refusal> {
-    match ffi::read(input) {
-        Ok(words) => Ok(pdu_of(&words)),
-        Err(number) => Err(refusal_of(number, 0)),
-    }
+    ffi::read(input, pdu_of).map_err(|number| refusal_of(number, 0))
 }
 
 /// Write a response's header into the first 48 bytes of `out`.

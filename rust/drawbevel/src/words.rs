@@ -149,7 +149,18 @@ pub fn words_of(response: &Response) -> ResponseWords {
             time2retain,
         } => {
             let (wait, retain) = (time2wait.into(), time2retain.into());
-            [0x26, response.into(), itt.into(), wait, retain, 0, 0, 0, 0, 0]
+            [
+                0x26,
+                response.into(),
+                itt.into(),
+                wait,
+                retain,
+                0,
+                0,
+                0,
+                0,
+                0,
+            ]
         }
         Response::Reject { reason } => [0x3f, reason.into(), 0, 0, 0, 0, 0, 0, 0, 0],
     }
