@@ -18,7 +18,7 @@ ghost use Rattle.capi.specs.Pdu.{ReadWords, readWords, writeWords, numbe
 pub extern "C" fn drawbevel_core_read(input: &[u8], pdu: &mut [u64; 17]) -> u32
     ensures { λ r. ⌜ _≡_ {A = ReadWords} (record { answer = r; words = now (pdu .exit) }) (readWords (readPdu limits (now (input .entry))) (now (pdu .entry))) ⌝ }
 {
-    match request_header::read::judge(input, LIMITS) {
+    match request_header::judge::judge(input, LIMITS) {
         Verdict::Refused(f) => refusal::number_of(f) as u32,
         Verdict::Good => {
             let w = words::request::words(input);

@@ -1,16 +1,12 @@
--- Big-endian fields, over the width: one law of reading (`be-suc`, `be-lt`) and one of writing (`put-step`).
+-- Big-endian fields, over the width: reading (`be-suc`, `be-lt`, `be-split`) and writing (`bytes-join`, `bytes-cut`; `sets-append`, `paste-sets`).
 use mathlib.Core.Path.{_≡_, refl, sym, ap, subst, _∙_}
 use mathlib.Core.List.{List, [], _∷_, _++_, append-assoc, append-nil}
-use mathlib.Core.Bool.{Bool, true, false, not, _&&_}
-use mathlib.Core.Logic.{_⊎_, inl, inr, ⊎-elim}
-use Prim.Native.Nat.{ℕ, zero, suc, _+_, _-_, _*_, _/_, _%_, _^_, _<_, _≤_}
-use native.Mathlib.Nat.{pow-suc, mod-lt, div-add-mod', zero-add, add-assoc, mul-assoc, add-suc, suc-add, add-zero, not-suc-le-zero}
+use Prim.Native.Nat.{ℕ, zero, suc, _+_, _*_, _/_, _%_, _^_, _<_, _≤_}
+use native.Mathlib.Nat.{pow-suc, mod-lt, div-add-mod', zero-add, add-assoc, mul-assoc, add-suc, suc-add, add-zero}
 use native.Mathlib.Numerals.{add-one}
 use native.Mathlib.Omega.{arith}
-use lib.ListN.{length, getD, set, take, drop, length-append}
-use lib.Seq.{paste, sets-eq, take-all, sets, set-comm, drop-cons, take-suc, set-at, append-snoc, length-take-le}
-use lib.Dec.{ltb, eqb}
-use borrow.Author.Tests.{ltb-false}
+use lib.ListN.{length, getD, set, take, length-append}
+use lib.Seq.{paste, sets, sets-eq, take-all}
 use Rattle.field.specs.Field.{beAt, bytesOf}
 
 pub be-suc : (s : List ℕ) (at n : ℕ) → beAt s at (n + 1) ≡ beAt s at n * 256 + getD s (at + n) 0
@@ -30,14 +26,6 @@ be-split s at n zero = rw add-zero (omega arith)
 be-split s at n (suc m) =
     let a = beAt s at n in
     rw (add-suc, pow-suc, add-assoc, ← (mul-assoc a (256 ^ m) 256)) (omega (arith, be-split s at n m))
-
-sets-snoc : (l : List ℕ) (i : ℕ) (a : List ℕ) (x : ℕ) → sets l i (a ++ (x ∷ [])) ≡ sets (set l (i + length a) x) i a
-sets-snoc l i [] x = rw add-zero
-sets-snoc l i (y ∷ ys) x =
-    sets-snoc (set l i y) (suc i) ys x
-    ∙ ap (λ (r : List ℕ). sets r (suc i) ys)
-    (ap (λ (k : ℕ). set (set l i y) k x) (suc-add i (length ys) ∙ sym (add-suc i (length ys)))
-    ∙ set-comm l i (i + suc (length ys)) y x (λ e. omega arith))
 
 pub length-bytes : (n v : ℕ) → length (bytesOf n v) ≡ n
 unfolding bytesOf
@@ -68,24 +56,6 @@ bytes-cut n v =
     sym (bytes-join 0 n (v / 256 ^ n) (v % 256 ^ n) (mod-lt v (pos-pow n)))
     ∙ ap (λ (k : ℕ). bytesOf k (v / 256 ^ n * 256 ^ n + v % 256 ^ n)) (zero-add n)
     ∙ ap (λ (k : ℕ). bytesOf n k) (div-add-mod' v (256 ^ n))
-
--- the last of i bytes is stored first, and the rest of the number goes into the bytes before it
-pub put-step : (l : List ℕ) (at i v : ℕ) → 0 < i → sets l at (bytesOf i v) ≡ sets (set l (at + (i - 1)) (v % 256)) at (bytesOf (i - 1) (v / 256))
-unfolding bytesOf
-put-step l at zero v h = absurd (not-suc-le-zero h)
-put-step l at (suc j) v h =
-    let e : suc j - 1 ≡ j = omega arith in
-    rw e (sets-snoc l at (bytesOf j (v / 256)) (v % 256)
-    ∙ ap (λ (k : ℕ). sets (set l (at + k) (v % 256)) at (bytesOf j (v / 256))) (length-bytes j (v / 256)))
-
--- one more element copied to the front
-pub copy-step : (h o : List ℕ) (i : ℕ) → i < length h → i < length o → set (take i h ++ drop i o) i (getD h i 0) ≡ take (i + 1) h ++ drop (i + 1) o
-copy-step h o i p q =
-    ap (λ (r : List ℕ). set (take i h ++ r) i (getD h i 0)) (drop-cons o i 0 q)
-    ∙ set-at (take i h) (getD o i 0) (drop (suc i) o) (getD h i 0) i (length-take-le i h (omega arith))
-    ∙ sym (append-snoc (take i h) (getD h i 0) (drop (suc i) o))
-    ∙ ap (λ (r : List ℕ). r ++ drop (suc i) o) (sym (take-suc h i 0 p))
-    ∙ ap (λ (k : ℕ). take k h ++ drop k o) (sym (add-one i))
 
 -- a run of stores after another
 pub sets-append : (l : List ℕ) (i : ℕ) (a b : List ℕ) → sets (sets l i a) (i + length a) b ≡ sets l i (a ++ b)

@@ -61,10 +61,10 @@ fn read_first(buffer: &[u8], n: usize) {
         return;
     }
     let pdu = &buffer[0..n];
-    let a = request_header::read::read(pdu, LIMITS);
+    let a = request_pdu::read(pdu, LIMITS);
     show::answer(a);
     match a {
-        ReadAnswer::Got(p) => ends(request_header::read::data_of(pdu, p)),
+        ReadAnswer::Got(p) => ends(request_pdu::data_of(pdu, p)),
         ReadAnswer::Refused(_) => {}
     }
 }

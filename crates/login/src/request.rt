@@ -13,7 +13,7 @@ use request_header::LIMITS;
 use request_header::Login;
 use request_header::ReadAnswer;
 use request_header::Request;
-use request_header::read::read;
+use request_pdu::read;
 use text::slice::append;
 ghost use mathlib.Core.Path.{_≡_};
 ghost use Prim.Native.Nat.{_≤_};

@@ -1,6 +1,6 @@
 // A read PDU: its common fields together with one of six requests. Fields are named as RFC 7143 names them.
-mod fields;
-pub mod read;
+pub mod judge;
+pub mod lengths;
 mod rules;
 
 use refusal::Refusal;

@@ -1,6 +1,6 @@
 // The field rules of the requests, over the bytes of a header. Each breach is FIELD.
 use crate::Limits;
-use crate::fields::data_length;
+use crate::lengths::data_length;
 use field::NONE;
 use field::be32;
 use field::flag;

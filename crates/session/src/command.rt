@@ -82,7 +82,7 @@ fn offered_as(pdu: &[u8]) -> Offered
 fn read_offer(pdu: &[u8]) -> Offered
     ensures { λ r. ⌜ offeredOf r ≡ offeredAs (readPdu limits (now (pdu .entry))) ⌝ }
 {
-    match request_header::read::judge(pdu, LIMITS) {
+    match request_header::judge::judge(pdu, LIMITS) {
         Verdict::Refused(f) => Offered::Refused(f),
         Verdict::Good => offered_as(pdu),
     }

@@ -150,7 +150,7 @@ fn asked_by(level: u8, pdu: &[u8]) -> Asked
 fn read_snack(level: u8, pdu: &[u8]) -> Asked
     ensures { λ r. ⌜ askedOf r ≡ asked level (readPdu limits (now (pdu .entry))) ⌝ }
 {
-    match request_header::read::judge(pdu, LIMITS) {
+    match request_header::judge::judge(pdu, LIMITS) {
         Verdict::Refused(f) => Asked::Refused(f),
         Verdict::Good => asked_by(level, pdu),
     }

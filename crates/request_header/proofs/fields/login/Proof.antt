@@ -1,9 +1,0 @@
-use borrow.Author.Needs.{needs}
-use Rattle.request_header.proofs.fields.login.Statement.{statement}
-use Rattle.request_header.proofs.fields.login.Tie as tie
-
-pub login-spec : {M : Type 1} → statement M
-login-spec =
-    tie.close (tie.spec
-    (λ c. search needs) (λ c κs. search needs) (λ c κs. search needs) (λ c. search needs) (λ c. search needs)
-    (λ c κs. search needs) (λ c κs. search needs) (λ c κs. search needs) (λ c. cc))

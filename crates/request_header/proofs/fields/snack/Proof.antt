@@ -1,8 +1,0 @@
-use borrow.Author.Needs.{needs}
-use Rattle.request_header.proofs.fields.snack.Statement.{statement}
-use Rattle.request_header.proofs.fields.snack.Tie as tie
-
-pub snack-spec : {M : Type 1} → statement M
-snack-spec =
-    tie.close (tie.spec
-    (λ c. search needs) (λ c κs. search needs) (λ c κs. search needs) (λ c κs. search needs) (λ c. cc))

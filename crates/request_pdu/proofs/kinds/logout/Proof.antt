@@ -1,0 +1,7 @@
+use borrow.Author.Needs.{needs}
+use Rattle.request_pdu.proofs.kinds.logout.Statement.{statement}
+use Rattle.request_pdu.proofs.kinds.logout.Tie as tie
+
+pub logout-spec : {M : Type 1} → statement M
+logout-spec = tie.close (tie.spec
+    (λ c. search needs) (λ c κs. search needs) (λ c. cc))
