@@ -45,6 +45,20 @@ pub enum Request {
     Snack(Snack),
 }
 
+impl Request {
+    /// The kind, as vectors and coverage name it.
+    pub fn kind(&self) -> &'static str {
+        match self {
+            Request::NopOut(_) => "nop-out",
+            Request::ScsiCommand(_) => "scsi-command",
+            Request::TaskManagement(_) => "task-management",
+            Request::Login(_) => "login",
+            Request::Logout(_) => "logout",
+            Request::Snack(_) => "snack",
+        }
+    }
+}
+
 /// NOP-Out.
 #[derive(Clone, Copy, Debug, PartialEq, Eq)]
 pub struct NopOut {

@@ -6,7 +6,7 @@ mod session;
 
 pub use required::required;
 
-use calls::{Offer, Request};
+use calls::Offer;
 use script::{Answer, Call, Played};
 use std::collections::BTreeMap;
 
@@ -108,14 +108,7 @@ fn answer_name(answer: &Answer) -> String {
         Answer::Run(_) => "run",
         Answer::Resent(..) => "resent",
         Answer::Window(_) => "window",
-        Answer::Read(pdu) => match pdu.request {
-            Request::NopOut(_) => "nop-out",
-            Request::ScsiCommand(_) => "scsi-command",
-            Request::TaskManagement(_) => "task-management",
-            Request::Login(_) => "login",
-            Request::Logout(_) => "logout",
-            Request::Snack(_) => "snack",
-        },
+        Answer::Read(pdu) => pdu.request.kind(),
         Answer::Written(_) => "written",
         Answer::LoginBegun => "begun",
         Answer::Login(answer, _) if answer.transit => "answer, T set",

@@ -51,17 +51,10 @@ fn own(out: &mut String, request: &Request) {
 }
 
 fn shown(out: &mut String, p: &Pdu, pdu: &[u8]) {
-    let kind = match p.request {
-        Request::NopOut(_) => "nop-out",
-        Request::ScsiCommand(_) => "scsi-command",
-        Request::TaskManagement(_) => "task-management",
-        Request::Login(_) => "login",
-        Request::Logout(_) => "logout",
-        Request::Snack(_) => "snack",
-    };
     write!(
         out,
-        "{kind} i={} cmdsn=0x{:08x} lun=0x{:016x} itt=0x{:08x} expstatsn=0x{:08x}",
+        "{} i={} cmdsn=0x{:08x} lun=0x{:016x} itt=0x{:08x} expstatsn=0x{:08x}",
+        p.request.kind(),
         u8::from(p.immediate),
         p.cmd_sn,
         p.lun,
