@@ -1,16 +1,17 @@
 -- What the code's answer on a block says, of the text output.
 use mathlib.Core.Path.{_≡_, refl, sym, ap, _∙_, subst}
 use mathlib.Core.Bool.{Bool, true, false, not, _&&_, _||_}
-use borrow.Author.Tests.{ltb-false}
-use mathlib.Core.List.{List, _++_}
+use borrow.Author.Tests.{ltb-false, eq-eqb}
+use mathlib.Core.List.{List, [], _∷_, _++_}
+use mathlib.Core.Logic.{⊎-elim}
 use Prim.Native.Nat.{ℕ, _+_, _≤_}
 use native.Mathlib.Omega.{arith}
 use lib.ListN.{length, drop, take}
 use lib.Seq.{take-at, length-take-le}
 use Rattle.request_header.specs.declared.Login.{Login}
 use Rattle.keys.specs.declared.parameters.Settled.{Settled}
-use Rattle.login.specs.Login.{startText, answerOf, named, joined, withGather, failText, finish, textStep, judgeStep, Outcome, Texted, accept, kindStep, loginStep}
-use Rattle.login.specs.Code.{finishStep, withNames, blockResult, verdictAfter, textAfter, textOf, Written, undone, judgedBlock, judgedArea, areaOf, JudgedIn, loginIn, foundStep, endOf, ReadAs, FoundAs}
+use Rattle.login.specs.Login.{startText, answerOf, named, joined, withGather, failText, finish, textStep, judgeStep, Outcome, Texted, accept, refuse, requestStep, kindStep, loginStep}
+use Rattle.login.specs.Code.{finishStep, withNames, blockResult, verdictAfter, textAfter, textOf, Written, undone, judgedBlock, judgedArea, areaOf, JudgedIn, ReadAs, FoundAs}
 use Rattle.login.specs.Block.{judge, Result, stopped, went, resultOf, countOf, JudgedAs}
 use Rattle.login.specs.declared.state.State.{State}
 use Rattle.login.specs.declared.state.Step.{Step}
@@ -34,6 +35,9 @@ use Rattle.request_header.specs.declared.Request.the-variants as R
 use Rattle.request_header.specs.declared.Limits.{Limits}
 use Rattle.request_header.specs.declared.ReadAnswer.the-variants as G
 use lib.Dec.{eqb, ltb}
+use types.Run.{OneOf}
+use denote.Enum.Declared.{tagOf}
+use Rattle.request_header.proofs.Request.{the-type}
 
 pub start-length : (b : Bool) → length (startText b) ≤ 23
 unfolding startText
@@ -169,62 +173,76 @@ status-go m s F.Snack e = refl
 pub reading-status : (m : Limits) (s : List ℕ) (f : Refusal) → Read.answerOf (G.Refused f) ≡ readPdu m s → status f ≡ 0
 reading-status m s f e = status-go m s f (sym e)
 
--- What is done with the Login that was found is what is done with the request.
-pub found-is : (r : Request) (a n : ℕ) (l : State) (pdu : List ℕ) (live new : ℕ) (ours g t : List ℕ) → foundStep (loginIn r a n) l pdu live new ours g t ≡ kindStep r l (take n (drop a pdu)) live new ours g t
-found-is (R.NopOut x) a n l pdu live new ours g t = refl
-found-is (R.ScsiCommand x) a n l pdu live new ours g t = refl
-found-is (R.TaskManagement x) a n l pdu live new ours g t = refl
-found-is (R.Login q) a n l pdu live new ours g t = refl
-found-is (R.Logout x) a n l pdu live new ours g t = refl
-found-is (R.Snack x) a n l pdu live new ours g t = refl
+-- A request that is no Login, by its variant's place.
+not-third : (n : ℕ) → OneOf (0 ∷ 1 ∷ 2 ∷ 4 ∷ 5 ∷ []) n → n ≡ 3 → ⊥
+not-third n k e = ⊎-elim (λ a. omega arith) (λ b. ⊎-elim (λ a. omega arith) (λ c. ⊎-elim (λ a. omega arith) (λ d. ⊎-elim (λ a. omega arith) (λ f. omega arith) d) c) b) k
 
-pub found-end : (r : Request) (a n k : ℕ) → a + n ≤ k → endOf (loginIn r a n) ≤ k
-found-end (R.NopOut x) a n k h = omega arith
-found-end (R.ScsiCommand x) a n k h = omega arith
-found-end (R.TaskManagement x) a n k h = omega arith
-found-end (R.Login q) a n k h = h
-found-end (R.Logout x) a n k h = omega arith
-found-end (R.Snack x) a n k h = omega arith
+-- FIELD for a PDU that is no Login, and for a new handle 0.
+module _ (l : State) (d : List ℕ) (live new : ℕ) (ours g t : List ℕ) where
+  kind-none : (r : Request) → OneOf (0 ∷ 1 ∷ 2 ∷ 4 ∷ 5 ∷ []) (tagOf the-type r) → refuse l 3 g t ≡ kindStep r l d live new ours g t
+  kind-none (R.NopOut x) k = refl
+  kind-none (R.ScsiCommand x) k = refl
+  kind-none (R.TaskManagement x) k = refl
+  kind-none (R.Login q) k = absurd (not-third 3 k refl)
+  kind-none (R.Logout x) k = refl
+  kind-none (R.Snack x) k = refl
 
--- what a PDU that was read is to a login
-pub read-got : (pdu : List ℕ) (p : Pdu) → Read.answerOf (G.Got p) ≡ readPdu limits pdu → ReadAs pdu (loginIn (p .request) (p .«data_start») (p .«data_segment_length»))
-unfolding dataOf
-read-got pdu p e = record {
-  step = λ l live new ours g t. rw (← e) (found-is (p .request) (p .«data_start») (p .«data_segment_length») l pdu live new ours g t);
-  inside = found-end (p .request) _ _ _ (got-data limits pdu p (sym e));
-}
+  kind-zero : (r : Request) → new ≡ 0 → refuse l 3 g t ≡ kindStep r l d live new ours g t
+  unfolding requestStep
+  kind-zero (R.NopOut x) z = refl
+  kind-zero (R.ScsiCommand x) z = refl
+  kind-zero (R.TaskManagement x) z = refl
+  kind-zero (R.Login q) z = sym (here (eqb new 0) _ _ (eq-eqb new 0 z))
+  kind-zero (R.Logout x) z = refl
+  kind-zero (R.Snack x) z = refl
 
-pub read-refused : (pdu : List ℕ) (f : Refusal) → Read.answerOf (G.Refused f) ≡ readPdu limits pdu → ReadAs pdu (N.Refused f)
-read-refused pdu f e = record { step = λ l live new ours g t. rw (← e, reading-status limits pdu f e); inside = omega arith }
+-- What a PDU is to a login: one that was read, and one that was not.
+module _ (new : ℕ) (pdu : List ℕ) where
+  pub read-refused : (f : Refusal) → Read.answerOf (G.Refused f) ≡ readPdu limits pdu → ReadAs new pdu (N.Refused f)
+  read-refused f e = record { step = λ l live ours g t. rw (← e, reading-status limits pdu f e); inside = omega arith; lent = λ q. false-true q }
 
--- and to one that is over or not, with these areas
-module _ (over : Bool) (gather text : ℕ) (pdu : List ℕ) where
-  pub found-gather : ltb gather 8192 ≡ true → FoundAs over gather text pdu (N.Refused F.Buffer)
-  unfolding loginStep
-  found-gather a = record { step = λ l live new ours g t e m n. sym (here (ltb (length g) 8192) _ _ (ap (λ (x : ℕ). ltb x 8192) m ∙ a)); inside = omega arith; areas = λ q. false-true q }
+  module _ (p : Pdu) (e : Read.answerOf (G.Got p) ≡ readPdu limits pdu) where
+    pub read-zero : new ≡ 0 → ReadAs new pdu (N.Refused F.Field)
+    read-zero z = record { step = λ l live ours g t. rw (← e) (kind-zero l (dataOf pdu p) live new ours g t (p .request) z); inside = omega arith; lent = λ q. false-true q }
 
-  module _ (a : ltb gather 8192 ≡ false) where
-    pub found-text : ltb text 8192 ≡ true → FoundAs over gather text pdu (N.Refused F.Buffer)
-    unfolding loginStep
-    found-text b = record {
-      step = λ l live new ours g t e m n. sym (past (ltb (length g) 8192) _ _ _ (ap (λ (x : ℕ). ltb x 8192) m ∙ a) (here (ltb (length t) 8192) _ _ (ap (λ (x : ℕ). ltb x 8192) n ∙ b)));
-      inside = omega arith;
-      areas = λ q. false-true q;
+    pub read-other : OneOf (0 ∷ 1 ∷ 2 ∷ 4 ∷ 5 ∷ []) (tagOf the-type (p .request)) → ReadAs new pdu (N.Refused F.Field)
+    read-other k = record { step = λ l live ours g t. rw (← e) (kind-none l (dataOf pdu p) live new ours g t (p .request) k); inside = omega arith; lent = λ q. false-true q }
+
+    pub read-got : (q : Login) → p .request ≡ R.Login q → (new ≡ 0 → ⊥) → ReadAs new pdu (N.Login q (p .«data_start») (p .«data_segment_length»))
+    unfolding dataOf
+    read-got q f z = record {
+      step = λ l live ours g t. rw (← e) (ap (λ (r : Request). kindStep r l (dataOf pdu p) live new ours g t) (sym f));
+      inside = got-data limits pdu p (sym e);
+      lent = λ _. z;
     }
 
-    module _ (b : ltb text 8192 ≡ false) where
-      pub found-closed : over ≡ true → FoundAs over gather text pdu (N.Refused F.Closed)
-      unfolding loginStep
-      found-closed c = record {
-        step = λ l live new ours g t e m n. sym (past (ltb (length g) 8192) _ _ _ (ap (λ (x : ℕ). ltb x 8192) m ∙ a) (past (ltb (length t) 8192) _ _ _ (ap (λ (x : ℕ). ltb x 8192) n ∙ b) (here (l .over) _ _ (e ∙ c))));
-        inside = omega arith;
-        areas = λ q. false-true q;
-      }
+-- and to one that is over or not, with these areas
+module _ (over : Bool) (new gather text : ℕ) (pdu : List ℕ) where
+  small : (a b : Bool) (x y : Outcome) → (a || b) ≡ true → x ≡ pick a x (pick b x y)
+  small true b x y e = refl
+  small false true x y e = refl
+  small false false x y e = false-true e
 
-      pub found-read : over ≡ false → (f : Found) → ReadAs pdu f → FoundAs over gather text pdu f
-      unfolding loginStep
-      found-read c f r = record {
-        step = λ l live new ours g t e m n. r .step l live new ours g t ∙ sym (past (ltb (length g) 8192) _ _ _ (ap (λ (x : ℕ). ltb x 8192) m ∙ a) (past (ltb (length t) 8192) _ _ _ (ap (λ (x : ℕ). ltb x 8192) n ∙ b) (past (l .over) _ _ _ (e ∙ c) refl)));
-        inside = r .inside;
-        areas = λ q. (ltb-false _ _ a, ltb-false _ _ b);
-      }
+  large : (a b : Bool) → (a || b) ≡ false → (a ≡ false) × (b ≡ false)
+  large true b e = false-true (sym e)
+  large false b e = (refl, e)
+
+  pub found-small : (ltb gather 8192 || ltb text 8192) ≡ true → FoundAs over new gather text pdu (N.Refused F.Buffer)
+  unfolding loginStep
+  found-small a = record { step = λ l live ours g t e m n. small (ltb (length g) 8192) (ltb (length t) 8192) _ _ (rw (m, n) a); inside = omega arith; lent = λ q. false-true q }
+
+  module _ (a : (ltb gather 8192 || ltb text 8192) ≡ false) where
+    reached : (x y z : Outcome) (g t : List ℕ) → length g ≡ gather → length t ≡ text → y ≡ z → y ≡ pick (ltb (length g) 8192) x (pick (ltb (length t) 8192) x z)
+    reached x y z g t m n e = sym (past _ _ _ _ (ap (λ (k : ℕ). ltb k 8192) m ∙ large (ltb gather 8192) (ltb text 8192) a .0) (past _ _ _ _ (ap (λ (k : ℕ). ltb k 8192) n ∙ large (ltb gather 8192) (ltb text 8192) a .1) (sym e)))
+
+    pub found-closed : over ≡ true → FoundAs over new gather text pdu (N.Refused F.Closed)
+    unfolding loginStep
+    found-closed c = record { step = λ l live ours g t e m n. reached _ _ _ g t m n (sym (here (l .over) _ _ (e ∙ c))); inside = omega arith; lent = λ q. false-true q }
+
+    pub found-read : over ≡ false → (f : Found) → ReadAs new pdu f → FoundAs over new gather text pdu f
+    unfolding loginStep
+    found-read c f r = record {
+      step = λ l live ours g t e m n. reached _ _ _ g t m n (r .step l live ours g t ∙ sym (past (l .over) _ _ _ (e ∙ c) refl));
+      inside = r .inside;
+      lent = λ q. (ltb-false _ _ (large (ltb gather 8192) (ltb text 8192) a .0), ltb-false _ _ (large (ltb gather 8192) (ltb text 8192) a .1), r .lent q);
+    }

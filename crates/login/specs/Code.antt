@@ -11,8 +11,6 @@ use Rattle.text.specs.Text.{pick}
 use Rattle.refusal.specs.declared.Refusal.{Refusal}
 use Rattle.refusal.specs.declared.Refusal.the-variants as F
 use Rattle.request_header.specs.declared.Login.{Login}
-use Rattle.request_header.specs.declared.Request.{Request}
-use Rattle.request_header.specs.declared.Request.the-variants as R
 use Rattle.login.specs.declared.request.Found.{Found}
 use Rattle.login.specs.declared.request.Found.the-variants as N
 use Rattle.keys.specs.declared.parameters.Settled.{Settled}
@@ -107,16 +105,7 @@ pub record JudgedIn (judged : Bool) (stage : ℕ) (leading : Bool) (ours : List 
 
 -- ---- a PDU
 
--- the Login that a request is, with its data's place
-abbrev pub loginIn : Request → ℕ → ℕ → Found
-loginIn (R.NopOut x) a n = N.Refused F.Field
-loginIn (R.ScsiCommand x) a n = N.Refused F.Field
-loginIn (R.TaskManagement x) a n = N.Refused F.Field
-loginIn (R.Login q) a n = N.Login q a n
-loginIn (R.Logout x) a n = N.Refused F.Field
-loginIn (R.Snack x) a n = N.Refused F.Field
-
--- what is done with it: FIELD for a PDU that is no Login
+-- what is done with the Login that was found
 abbrev pub foundStep : Found → State → List ℕ → ℕ → ℕ → List ℕ → List ℕ → List ℕ → Outcome
 foundStep (N.Login q a n) l pdu live new ours g t = requestStep l q (take n (drop a pdu)) live new ours g t
 foundStep (N.Refused f) l pdu live new ours g t = record { state = l; answer = refused (number f) (status f); gather = g; text = t }
@@ -130,11 +119,12 @@ abbrev pub isLogin : Found → Bool
 isLogin (N.Login q a n) = true
 isLogin (N.Refused f) = false
 
-pub record ReadAs (pdu : List ℕ) (f : Found) : Type 0 where
-  pub step : (l : State) (live new : ℕ) (ours g t : List ℕ) → foundStep f l pdu live new ours g t ≡ readStep (readPdu limits pdu) l pdu live new ours g t
+pub record ReadAs (new : ℕ) (pdu : List ℕ) (f : Found) : Type 0 where
+  pub step : (l : State) (live : ℕ) (ours g t : List ℕ) → foundStep f l pdu live new ours g t ≡ readStep (readPdu limits pdu) l pdu live new ours g t
   pub inside : endOf f ≤ length pdu
+  pub lent : isLogin f ≡ true → new ≡ 0 → ⊥
 
-pub record FoundAs (over : Bool) (gather text : ℕ) (pdu : List ℕ) (f : Found) : Type 0 where
-  pub step : (l : State) (live new : ℕ) (ours g t : List ℕ) → l .over ≡ over → length g ≡ gather → length t ≡ text → foundStep f l pdu live new ours g t ≡ loginStep l pdu live new ours g t
+pub record FoundAs (over : Bool) (new gather text : ℕ) (pdu : List ℕ) (f : Found) : Type 0 where
+  pub step : (l : State) (live : ℕ) (ours g t : List ℕ) → l .over ≡ over → length g ≡ gather → length t ≡ text → foundStep f l pdu live new ours g t ≡ loginStep l pdu live new ours g t
   pub inside : endOf f ≤ length pdu
-  pub areas : isLogin f ≡ true → (8192 ≤ gather) × (8192 ≤ text)
+  pub lent : isLogin f ≡ true → (8192 ≤ gather) × (8192 ≤ text) × (new ≡ 0 → ⊥)

@@ -78,10 +78,12 @@ pub fn finish(l: State, q: Login, new: u16, j: Judged) -> Step
 {
     let v = j.verdict;
     match v {
-        Verdict::Refused(status) => end(l, status),
+        Verdict::Refused(status) => {
+            return end(l, status);
+        }
         Verdict::Answered(n) => {
             let s = j.settled;
-            accept(q, new, s, n)
+            return accept(q, new, s, n);
         }
     }
 }

@@ -82,38 +82,7 @@ fn undo(v: Verdict, gather: &mut [u8], at: usize, n: usize, kept: &[u8])
     }
 }
 
-// The last piece after `at` gathered bytes.
-fn judge_gathered(
-    s: Settled,
-    judged: bool,
-    stage: u8,
-    leading: bool,
-    ours: &[u8],
-    at: usize,
-    piece: &[u8],
-    gather: &mut [u8],
-    text: &mut [u8],
-) -> Judged
-    requires { ⌜ (8192 ≤ length (now gather)) × (8192 ≤ length (now text)) × (at + length (now piece) ≤ 8192) × (at ≡ 0 → ⊥) ⌝ }
-    ensures { λ r. ⌜ JudgedIn judged stage leading (now (ours .entry)) s at (now (piece .entry)) r (now (gather .entry)) (now (text .entry)) (now (gather .exit)) (now (text .exit)) ⌝ }
-{
-    let mut kept = [0u8; 8192];
-    let total = join(gather, at, piece, &mut kept);
-    let j = judge_text(
-        s,
-        judged,
-        stage,
-        leading,
-        ours,
-        block_of(piece, gather, total),
-        text,
-    );
-    let v = j.verdict;
-    undo(v, gather, at, piece.len(), &kept);
-    j
-}
-
-// A request without C, after `at` gathered bytes: its block is judged and answered.
+// A request without C, after `at` gathered bytes: its block is judged and answered. Nothing is copied where nothing was gathered.
 pub fn judge_request(
     s: Settled,
     judged: bool,
@@ -129,15 +98,20 @@ pub fn judge_request(
     ensures { λ r. ⌜ JudgedIn judged stage leading (now (ours .entry)) s at (now (piece .entry)) r (now (gather .entry)) (now (text .entry)) (now (gather .exit)) (now (text .exit)) ⌝ }
 {
     if at == 0 {
-        return judge_text(
-            s,
-            judged,
-            stage,
-            leading,
-            ours,
-            block_of(piece, gather, at),
-            text,
-        );
+        return judge_text(s, judged, stage, leading, ours, piece, text);
     }
-    judge_gathered(s, judged, stage, leading, ours, at, piece, gather, text)
+    let mut kept = [0u8; 8192];
+    let total = join(gather, at, piece, &mut kept);
+    let j = judge_text(
+        s,
+        judged,
+        stage,
+        leading,
+        ours,
+        block_of(piece, gather, total),
+        text,
+    );
+    let v = j.verdict;
+    undo(v, gather, at, piece.len(), &kept);
+    j
 }

@@ -19,7 +19,7 @@ ghost use mathlib.Core.Path.{_≡_};
 ghost use Prim.Native.Nat.{_≤_};
 ghost use lib.ListN.{length};
 ghost use Rattle.login.specs.Login.{answerOf, Outcome, requestStep, loginStep};
-ghost use Rattle.login.specs.Code.{refuseStep, loginIn, ReadAs, FoundAs};
+ghost use Rattle.login.specs.Code.{refuseStep, ReadAs, FoundAs};
 
 // A refusal that leaves the login as it was.
 fn refuse(l: State, why: Refusal) -> Step
@@ -42,12 +42,9 @@ fn request_step(
     gather: &mut [u8],
     text: &mut [u8],
 ) -> Step
-    requires { ⌜ (8192 ≤ length (now gather)) × (8192 ≤ length (now text)) ⌝ }
+    requires { ⌜ (8192 ≤ length (now gather)) × (8192 ≤ length (now text)) × (new ≡ 0 → ⊥) ⌝ }
     ensures { λ r. ⌜ _≡_ {A = Outcome} (record { state = r .state; answer = answerOf (r .answer) (now (text .exit)); gather = now (gather .exit); text = now (text .exit) }) (requestStep l q (now (piece .entry)) live new (now (ours .entry)) (now (gather .entry)) (now (text .entry))) ⌝ }
 {
-    if new == 0 {
-        return refuse(l, Refusal::Field);
-    }
     let s = status_of(l, q, piece.len(), live);
     if s != 0 {
         return end(l, s);
@@ -70,48 +67,39 @@ pub enum Found {
     Refused(Refusal),
 }
 
-// A request that was read: FIELD where it is no Login.
-fn login_in(r: Request, start: usize, len: usize) -> Found
-    ensures { λ f. ⌜ f ≡ loginIn r start len ⌝ }
-{
-    let other = Found::Refused(Refusal::Field);
-    match r {
-        Request::Login(q) => Found::Login(q, start, len),
-        Request::NopOut(_) => other,
-        Request::ScsiCommand(_) => other,
-        Request::TaskManagement(_) => other,
-        Request::Logout(_) => other,
-        Request::Snack(_) => other,
-    }
-}
-
-fn read_login(pdu: &[u8]) -> Found
-    ensures { λ f. ⌜ ReadAs (now (pdu .entry)) f ⌝ }
+// The Login that a PDU is read as: FIELD where it is none.
+fn read_login(pdu: &[u8], new: u16) -> Found
+    ensures { λ f. ⌜ ReadAs new (now (pdu .entry)) f ⌝ }
 {
     let answer = read(pdu, LIMITS);
     match answer {
-        ReadAnswer::Refused(why) => Found::Refused(why),
+        ReadAnswer::Refused(why) => {
+            return Found::Refused(why);
+        }
         ReadAnswer::Got(p) => {
+            if new == 0 {
+                return Found::Refused(Refusal::Field);
+            }
             let r = p.request;
-            login_in(r, p.data_start, p.data_segment_length)
+            if let Request::Login(q) = r {
+                return Found::Login(q, p.data_start, p.data_segment_length);
+            }
+            return Found::Refused(Refusal::Field);
         }
     }
 }
 
 // The refusals before a request is looked at: areas of these lengths, and a login that is over or not.
-fn find_login(over: bool, gather: usize, text: usize, pdu: &[u8]) -> Found
-    ensures { λ f. ⌜ FoundAs over gather text (now (pdu .entry)) f ⌝ }
+fn find_login(over: bool, new: u16, gather: usize, text: usize, pdu: &[u8]) -> Found
+    ensures { λ f. ⌜ FoundAs over new gather text (now (pdu .entry)) f ⌝ }
 {
-    if gather < MAX_TEXT {
-        return Found::Refused(Refusal::Buffer);
-    }
-    if text < MAX_TEXT {
+    if (gather < MAX_TEXT) | (text < MAX_TEXT) {
         return Found::Refused(Refusal::Buffer);
     }
     if over {
         return Found::Refused(Refusal::Closed);
     }
-    read_login(pdu)
+    read_login(pdu, new)
 }
 
 // One request of a login: `pdu` whole, the handle of the live session (0 for none), the new handle, our target name, the gather area
@@ -127,12 +115,14 @@ pub fn login_request(
 ) -> Step
     ensures { λ r. ⌜ _≡_ {A = Outcome} (record { state = r .state; answer = answerOf (r .answer) (now (text .exit)); gather = now (gather .exit); text = now (text .exit) }) (loginStep l (now (pdu .entry)) live new (now (ours .entry)) (now (gather .entry)) (now (text .entry))) ⌝ }
 {
-    let f = find_login(l.over, gather.len(), text.len(), pdu);
+    let f = find_login(l.over, new, gather.len(), text.len(), pdu);
     match f {
-        Found::Refused(why) => refuse(l, why),
+        Found::Refused(why) => {
+            return refuse(l, why);
+        }
         Found::Login(q, start, len) => {
             let end = start + len;
-            request_step(l, q, &pdu[start..end], live, new, ours, gather, text)
+            return request_step(l, q, &pdu[start..end], live, new, ours, gather, text);
         }
     }
 }

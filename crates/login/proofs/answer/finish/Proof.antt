@@ -14,4 +14,4 @@ returns-2 c = let a = c .before .before .before .before .before .args in c .acce
 pub finish-spec : {M : Type 1} → statement M
 finish-spec =
     tie.close (tie.spec
-    (λ c. search needs) (λ c κs. search needs) (λ c. search needs) (λ c κs. search needs) returns returns-2)
+    (λ c. search needs) (λ c κs. search needs) returns (λ c. search needs) (λ c κs. search needs) returns-2)

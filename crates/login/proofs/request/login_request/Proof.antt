@@ -1,3 +1,4 @@
+-- What the PDU is to the login, and what is done with it; its data lies within the PDU.
 use Rattle.login.proofs.Answers.{step-outcome}
 use Rattle.login.specs.Code.{foundStep, endOf, isLogin}
 use Rattle.login.specs.declared.request.Found.{Found}
@@ -28,24 +29,23 @@ part-request-step-end : tie.Need-part-request-step-end
 part-request-step-end c = omega (arith, inside c)
 
 request-step-requires : tie.Need-request-step-requires
-request-step-requires c κs = c .before .before .before .before .before .before .find-login .ensures .areas (ap isLogin (c .before .before .before .before .f2 .given .1))
+request-step-requires c κs = c .before .before .before .before .before .before .find-login .ensures .lent (ap isLogin (c .before .before .before .before .f2 .given .1))
 
 returns : tie.Need-returns
 returns c =
     let a = c .before .before .before .before .before .before .before .before .before .args in
     step-outcome _ _ _ _ (c .refuse .ensures)
-    ∙ ap (λ (x : Found). foundStep x (a .l) (now (a .pdu)) (a .live) (a .new) (now (a .ours)) (now (a .gather)) (now (a .text))) (sym (c .before .before .f .given .1)) ∙ c .before .before .before .before .find-login .ensures .step (a .l) (a .live) (a .new) _ _ _ refl refl refl
+    ∙ ap (λ (x : Found). foundStep x (a .l) (now (a .pdu)) (a .live) (a .new) (now (a .ours)) (now (a .gather)) (now (a .text))) (sym (c .before .before .f .given .1)) ∙ c .before .before .before .before .find-login .ensures .step (a .l) (a .live) _ _ _ refl refl refl
 
 returns-2 : tie.Need-returns-2
 returns-2 c =
     let a = c .before .before .before .before .before .before .before .before .before .before .before .before .before .before .before .before .args in
     rw add-sub-cancel-left at (c .before .before .before .before .request-step .ensures)
     ∙ ap (λ (x : Found). foundStep x (a .l) (now (a .pdu)) (a .live) (a .new) (now (a .ours)) (now (a .gather)) (now (a .text))) (sym (c .before .before .before .before .before .before .before .before .before .f2 .given .1))
-    ∙ c .before .before .before .before .before .before .before .before .before .before .before .find-login .ensures .step (a .l) (a .live) (a .new) _ _ _ refl refl refl
+    ∙ c .before .before .before .before .before .before .before .before .before .before .before .find-login .ensures .step (a .l) (a .live) _ _ _ refl refl refl
 
 pub login-request-spec : {M : Type 1} → statement M
 login-request-spec =
     tie.close (tie.spec
-    (λ c κs. search needs) (λ c. search needs) (λ c κs. search needs) (λ c. search needs) add-end sub-request-step
-    part-request-step-start part-request-step-end request-step-requires returns (λ c. search needs) (λ c. search needs)
-    returns-2)
+    (λ c κs. search needs) (λ c. search needs) (λ c κs. search needs) returns (λ c. search needs) add-end sub-request-step
+    part-request-step-start part-request-step-end request-step-requires (λ c. search needs) (λ c. search needs) returns-2)
