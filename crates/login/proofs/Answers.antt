@@ -1,18 +1,19 @@
 -- What the code's answer on a block says, of the text output.
 use mathlib.Core.Path.{_≡_, refl, sym, ap, _∙_, subst}
 use mathlib.Core.Bool.{Bool, true, false, not, _&&_, _||_}
-use borrow.Author.Tests.{ltb-false, eq-eqb}
+use borrow.Author.Tests.{ltb-false, eq-eqb, ne-eqb}
 use mathlib.Core.List.{List, [], _∷_, _++_}
 use mathlib.Core.Logic.{⊎-elim}
-use Prim.Native.Nat.{ℕ, _+_, _≤_}
+use Prim.Native.Nat.{ℕ, _+_, _-_, _≤_}
 use native.Mathlib.Omega.{arith}
+use native.Mathlib.Nat.{add-sub-cancel-left}
 use lib.ListN.{length, drop, take}
 use lib.Seq.{take-at, length-take-le}
 use Rattle.request_header.specs.declared.Login.{Login}
 use Rattle.keys.specs.declared.parameters.Settled.{Settled}
-use Rattle.login.specs.Login.{startText, answerOf, named, joined, withGather, failText, finish, textStep, judgeStep, Outcome, Texted, accept, refuse, requestStep, kindStep, loginStep}
-use Rattle.login.specs.Code.{finishStep, withNames, blockResult, verdictAfter, textAfter, textOf, Written, undone, judgedBlock, judgedArea, areaOf, JudgedIn, ReadAs, FoundAs}
-use Rattle.login.specs.Block.{judge, Result, stopped, went, resultOf, countOf, JudgedAs}
+use Rattle.login.specs.Login.{startText, answerOf, blockOf, named, joined, withGather, failText, finish, textStep, judgeStep, Outcome, Texted, accept, refuse, requestStep, kindStep, loginStep}
+use Rattle.login.specs.Code.{Joined, finishStep, withNames, blockResult, verdictAfter, textAfter, textOf, Written, undone, judgedBlock, judgedArea, areaOf, JudgedIn, foundStep, ReadAs, FoundAs}
+use Rattle.login.specs.Block.{judge, judgeBlock, Result, stopped, went, resultOf, countOf, JudgedAs}
 use Rattle.login.specs.declared.state.State.{State}
 use Rattle.login.specs.declared.state.Step.{Step}
 use Rattle.login.specs.declared.block.Verdict.{Verdict}
@@ -20,6 +21,7 @@ use Rattle.login.specs.declared.block.Verdict.the-variants as D
 use Rattle.login.specs.declared.block.Judged.{Judged}
 use Rattle.login.specs.declared.request.Found.{Found}
 use Rattle.login.specs.declared.request.Found.the-variants as N
+use Rattle.login.proofs.Area.{block-is, back}
 use Rattle.text.specs.Block.{formed, pairs}
 use Rattle.text.specs.Text.{pick}
 use Rattle.text.proofs.Laws.{past, here, false-true}
@@ -60,12 +62,19 @@ written-go : (judged : Bool) (s : Settled) (v : Verdict) (o t : List ℕ) → co
 written-go judged s (D.Refused x) o t h = record { result = refl; text = refl }
 written-go judged s (D.Answered n) o t h = named-go s n o t h judged (named s) refl
 
-pub written-is : (judged : Bool) (s : Settled) (v : Verdict) (o t : List ℕ) (r : Result) → JudgedAs r s v o
+written-is : (judged : Bool) (s : Settled) (v : Verdict) (o t : List ℕ) (r : Result) → JudgedAs r s v o
     → Written (withNames judged r) s (verdictAfter (judged || named s) v) t (textAfter (verdictAfter (judged || named s) v) o t)
 written-is judged s v o t r j = subst (λ (x : Result). Written (withNames judged x) s (verdictAfter (judged || named s) v) t (textAfter (verdictAfter (judged || named s) v) o t)) (j .result) (written-go judged s v o t (j .few))
 
+-- and the same of the block, by what each callee says
+pub written-by : (judged : Bool) (stage : ℕ) (leading : Bool) (ours : List ℕ) (s : Settled) (a b : List ℕ) (u : Settled) (v w : Verdict) (o t t' : List ℕ) (m : Bool)
+    → a ≡ startText judged → JudgedAs (judgeBlock stage leading ours s a b) u v o → m ≡ named u → w ≡ verdictAfter (judged || m) v → t' ≡ textAfter (verdictAfter (judged || m) v) o t
+    → Written (blockResult judged stage leading ours s b) u w t t'
+unfolding blockResult
+written-by judged stage leading ours s a b u v w o t t' m e j q x y = rw (x, y, q) (written-is judged u v o t _ (rw e at j))
+
 -- The gather area beside it.
-pub area-is : (s : Settled) (v : Verdict) (t t' g h k : List ℕ) (at : ℕ) (r : Result) → Written r s v t t' → joined h at k ≡ g → undone v h at k ≡ areaOf r g h
+area-is : (s : Settled) (v : Verdict) (t t' g h k : List ℕ) (at : ℕ) (r : Result) → Written r s v t t' → joined h at k ≡ g → undone v h at k ≡ areaOf r g h
 area-is s (D.Refused x) t t' g h k at r w e = e ∙ ap (λ (y : Result). areaOf y g h) (w .result)
 area-is s (D.Answered n) t t' g h k at r w e = ap (λ (y : Result). areaOf y g h) (w .result)
 
@@ -78,11 +87,14 @@ pub judged-own : (judged : Bool) (stage : ℕ) (leading : Bool) (ours : List ℕ
     → Written (blockResult judged stage leading ours s d) (j .settled) (j .verdict) t t' → JudgedIn judged stage leading ours s n d j g t g t'
 judged-own judged stage leading ours s n d j g t t' e w = record { written = rw e w; area = rw e (area-either (blockResult judged stage leading ours s d) g) }
 
--- something was
-pub judged-joined : (judged : Bool) (stage : ℕ) (leading : Bool) (ours : List ℕ) (s : Settled) (n : ℕ) (d : List ℕ) (j : Judged) (g t g' t' : List ℕ) → eqb n 0 ≡ false
-    → Written (blockResult judged stage leading ours s (take n g ++ d)) (j .settled) (j .verdict) t t' → g' ≡ areaOf (blockResult judged stage leading ours s (take n g ++ d)) g (joined g n d)
-    → JudgedIn judged stage leading ours s n d j g t g' t'
-judged-joined judged stage leading ours s n d j g t g' t' e w a = record { written = rw e w; area = rw e a }
+-- something was: the piece was joined to it, and what stood there was put back where the block is refused
+pub judged-joined : (judged : Bool) (stage : ℕ) (leading : Bool) (ours : List ℕ) (s : Settled) (n : ℕ) (d : List ℕ) (j : Judged) (g t g' t' new kept : List ℕ) (r : ℕ) (b : List ℕ) → (n ≡ 0 → ⊥)
+    → n + length d ≤ length g → Joined g n d new kept r → b ≡ blockOf d new r → Written (blockResult judged stage leading ours s b) (j .settled) (j .verdict) t t'
+    → g' ≡ undone (j .verdict) new n (take (length d) kept) → JudgedIn judged stage leading ours s n d j g t g' t'
+judged-joined judged stage leading ours s n d j g t g' t' new kept r b some fit x e w u =
+    let w' = rw (e ∙ block-is g n d fit new kept r x some) at w in
+    let a = u ∙ area-is (j .settled) (j .verdict) t t' g new (take (length d) kept) n _ w' (back g n d fit new kept r x) in
+    record { written = rw (ne-eqb n 0 some) w'; area = rw (ne-eqb n 0 some, ← (x .area)) a }
 
 -- The step that a result is.
 abbrev resultStep : State → Login → ℕ → List ℕ → Result → Texted
@@ -246,3 +258,11 @@ module _ (over : Bool) (new gather text : ℕ) (pdu : List ℕ) where
       inside = r .inside;
       lent = λ q. (ltb-false _ _ (large (ltb gather 8192) (ltb text 8192) a .0), ltb-false _ _ (large (ltb gather 8192) (ltb text 8192) a .1), r .lent q);
     }
+
+-- What is done with what was found is the step of the rules.
+module _ (l : State) (pdu : List ℕ) (live new : ℕ) (ours g t : List ℕ) (f : Found) (x : FoundAs (l .over) new (length g) (length t) pdu f) where
+  pub found-step : (h : Found) → f ≡ h → foundStep h l pdu live new ours g t ≡ loginStep l pdu live new ours g t
+  found-step h e = ap (λ (y : Found). foundStep y l pdu live new ours g t) (sym e) ∙ x .step l live ours g t refl refl refl
+
+  pub found-login : (q : Login) (a n : ℕ) (o : Outcome) → f ≡ N.Login q a n → o ≡ requestStep l q (take (a + n - a) (drop a pdu)) live new ours g t → o ≡ loginStep l pdu live new ours g t
+  found-login q a n o e r = r ∙ ap (λ (k : ℕ). requestStep l q (take k (drop a pdu)) live new ours g t) (add-sub-cancel-left a n) ∙ found-step (N.Login q a n) e

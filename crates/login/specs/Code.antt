@@ -8,7 +8,6 @@ use lib.Dec.{eqb}
 use Rattle.refusal.specs.Refusal.{number, status}
 use Rattle.request_header.specs.Request.{readPdu, limits}
 use Rattle.text.specs.Text.{pick}
-use Rattle.refusal.specs.declared.Refusal.{Refusal}
 use Rattle.refusal.specs.declared.Refusal.the-variants as F
 use Rattle.request_header.specs.declared.Login.{Login}
 use Rattle.login.specs.declared.request.Found.{Found}
@@ -22,9 +21,6 @@ use Rattle.login.specs.declared.block.Verdict.the-variants as D
 use Rattle.login.specs.declared.state.State.{State}
 use Rattle.login.specs.declared.state.Step.{Step}
 use Rattle.login.specs.declared.state.Answer.the-variants as W
-
-abbrev pub refuseStep : State → Refusal → Step
-refuseStep l why = record { state = l; answer = W.Refused why }
 
 abbrev pub endStep : State → ℕ → Step
 endStep l s = record { state = ended l; answer = W.Refused (F.Login s) }

@@ -19,17 +19,7 @@ ghost use mathlib.Core.Path.{_≡_};
 ghost use Prim.Native.Nat.{_≤_};
 ghost use lib.ListN.{length};
 ghost use Rattle.login.specs.Login.{answerOf, Outcome, requestStep, loginStep};
-ghost use Rattle.login.specs.Code.{refuseStep, ReadAs, FoundAs};
-
-// A refusal that leaves the login as it was.
-fn refuse(l: State, why: Refusal) -> Step
-    ensures { λ r. ⌜ r ≡ refuseStep l why ⌝ }
-{
-    Step {
-        state: l,
-        answer: Answer::Refused(why),
-    }
-}
+ghost use Rattle.login.specs.Code.{ReadAs, FoundAs};
 
 // A Login request with this data.
 fn request_step(
@@ -118,7 +108,10 @@ pub fn login_request(
     let f = find_login(l.over, new, gather.len(), text.len(), pdu);
     match f {
         Found::Refused(why) => {
-            return refuse(l, why);
+            return Step {
+                state: l,
+                answer: Answer::Refused(why),
+            };
         }
         Found::Login(q, start, len) => {
             let end = start + len;

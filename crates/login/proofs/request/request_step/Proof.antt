@@ -3,9 +3,9 @@ use Rattle.text.proofs.Laws.{past, here, quiet, loud, appended-whole}
 use Rattle.login.specs.Login.{requestStep}
 use Rattle.login.proofs.Area.{status-fits}
 use Rattle.login.proofs.Answers.{judged-step}
-use mathlib.Core.Path.{refl, sym, _∙_}
-use Prim.Native.Nat.{_≤_, _-_, _+_}
-use native.Mathlib.Omega.{arith}
+use mathlib.Core.Path.{refl, sym, _∙_, subst}
+use Prim.Native.Nat.{ℕ, _≤_, _-_, _+_}
+use native.Mathlib.Nat.{le-trans}
 use borrow.Author.Tests.{ne-eqb}
 use lib.ListN.{length}
 use denote.Ref.{now}
@@ -21,10 +21,10 @@ unfolding requestStep
 returns c = rw (c .end .ensures, c .before .before .status-of .ensures) (sym (past _ _ _ _ (ne-eqb _ _ (c .before .before .before .before .before .before .before .pre .2)) (here _ _ _ (loud _ _ (c .before .before .status-of .ensures) (c .before .if1 .taken)))))
 
 append-requires : tie.Need-append-requires
-append-requires c κs = omega (arith, fits-at (c .before .before .before), c .before .before .before .before .before .before .before .before .before .pre .0)
+append-requires c κs = le-trans (fits-at (c .before .before .before)) (c .before .before .before .before .before .before .before .before .before .pre .0)
 
 gathered-step-requires : tie.Need-gathered-step-requires
-gathered-step-requires c κs = omega (arith, fits-at (c .before .before .before .before .before .before), c .before .before .append .ensures .count)
+gathered-step-requires c κs = subst (λ (n : ℕ). n ≤ 8192) (sym (c .before .before .append .ensures .count)) (fits-at (c .before .before .before .before .before .before))
 
 returns-2 : tie.Need-returns-2
 unfolding requestStep
@@ -45,6 +45,6 @@ returns-3 c =
 pub request-step-spec : {M : Type 1} → statement M
 request-step-spec =
     tie.close (tie.spec
-    (λ c κs. search needs) (λ c κs. search needs) returns (λ c. search needs) append-requires gathered-step-requires
-    (λ c. search needs) returns-2 (λ c. search needs) judge-request-requires (λ c κs. search needs) (λ c. search needs)
-    (λ c. search needs) returns-3)
+    (λ c κs. search needs) (λ c κs. tt) returns (λ c. search needs) append-requires gathered-step-requires
+    (λ c. c .before .before .before .append .kept .0) returns-2 (λ c. search needs) judge-request-requires (λ c κs. tt)
+    (λ c. c .before .before .before .before .before .judge-request .kept .1 .1 .1 .1 .1 .1 .1 .0) (λ c. c .before .before .before .before .before .judge-request .kept .1 .1 .1 .1 .1 .1 .1 .1 .0) returns-3)
