@@ -2,8 +2,9 @@
 use mathlib.Core.Path.{_≡_, refl}
 use mathlib.Core.Bool.{Bool, true, false}
 use mathlib.Core.List.{List, [], _∷_, _++_}
-use Prim.Native.Nat.{ℕ, zero, suc, _+_, _<_, _≤_}
-use lib.ListN.{length, drop}
+use Prim.Native.Nat.{ℕ, zero, suc, _+_, _*_, _-_, _<_, _≤_}
+use native.Mathlib.Omega.{arith}
+use lib.ListN.{length, drop, length-drop}
 use Rattle.text.specs.Text.{pick}
 use Rattle.text.specs.Block.{nameIn, valueIn, pairs}
 use Rattle.text.proofs.Laws.{rest-at, some, none}
@@ -38,3 +39,30 @@ module _ (stage : ℕ) (leading : Bool) (ours : List ℕ) (s : Settled) (t b : L
 pub stop-status : (b : Bool) (st : ℕ) (r : Result) → stopped st ≡ r → stopped (pick b st 0x0200) ≡ pick b r (stopped 0x0200)
 stop-status true st r e = e
 stop-status false st r e = refl
+
+-- The numbers of a turn: n of 64 pairs were judged, the answer of at most 78 bytes a pair fits, and the next pair lies within the block.
+module _ (n : ℕ) (h : n ≤ 64) (m : n ≡ 64 → ⊥) where
+  pub turns-left : 64 - n ≡ suc (64 - (n + 1))
+  turns-left = omega arith
+
+  pub turn-counted : n + 1 ≤ 64
+  turn-counted = omega arith
+
+  pub turn-room : (start count old new : ℕ) → start + 4992 ≤ old → new ≡ old → count ≤ start + 78 * n → count + 78 ≤ new
+  turn-room start count old new r e c = omega arith
+
+pub turn-short : (start count new n : ℕ) → new ≤ count + 78 → count ≤ start + 78 * n → new ≤ start + 78 * (n + 1)
+turn-short start count new n p q = omega arith
+
+pub turn-within : (s : List ℕ) (k e : ℕ) → e < length (drop k s) → k + e < length s
+turn-within s k e h = omega (arith, length-drop k s)
+
+module _ (k e m : ℕ) (h : k + e < m) where
+  pub turn-next : k + e + 1 ≤ m
+  turn-next = omega arith
+
+  pub turn-less : m - (k + e + 1) < m - k
+  turn-less = omega arith
+
+pub all-short : (start count old new n : ℕ) → n ≤ 64 → start + 4992 ≤ old → new ≡ old → count ≤ start + 78 * n → count ≤ new
+all-short start count old new n h r e c = omega arith

@@ -1,3 +1,4 @@
+-- Where a good pair's name and value end, and that each callee is given them.
 use Rattle.text.specs.Text.{bytes}
 use Rattle.text.specs.Block.{nameIn, valueIn, goodFirst, wholeFirst, goodName}
 use Rattle.text.proofs.Laws.{good-first, cut-value, cut-start, name-short, false-true, &&-right}
@@ -10,13 +11,23 @@ use lib.Seq.{length-take-le}
 use lib.ListN.{length, take}
 use mathlib.Core.Path.{_≡_, sym, _∙_}
 use mathlib.Core.Bool.{true, false}
-use Prim.Native.Nat.{_-_, _+_, _≤_, _<_}
+use Prim.Native.Nat.{ℕ, _-_, _+_, _≤_, _<_}
+use native.Mathlib.Nat.{le-trans, le-of-lt}
 use native.Mathlib.Omega.{arith}
 use borrow.Author.Tests.{not-true, not-false}
 use denote.Ref.{now}
-use borrow.Author.Needs.{needs}
 use Rattle.login.proofs.block.judge_first.Statement.{statement}
 use Rattle.login.proofs.block.judge_first.Tie as tie
+
+-- on numbers: a name ends before its value, a name with its = is short, and so is an answer
+in-order : (e f n v : ℕ) → e ≡ n → f ≡ n + 1 + v → e + 1 ≤ f
+in-order e f n v p q = omega arith
+
+name-fits : (m e n : ℕ) → m ≡ e + 1 → e ≡ n → n ≤ 63 → m ≤ 64
+name-fits m e n p q h = omega arith
+
+said-fits : (r at n : ℕ) → r ≡ at + n → n ≤ 78 → r ≤ at + 78
+said-fits r at n e h = omega arith
 
 -- where a good pair's name and value end
 module _ (c : tie.Else1) where
@@ -24,7 +35,10 @@ module _ (c : tie.Else1) where
   ok = not-false _ (c .if1 .left)
 
   ends : (c .before .before .pair-in .result .eq + 1 ≤ c .before .before .pair-in .result .end) × (c .before .before .pair-in .result .end < length (now (c .before .before .before .before .before .before .before .args .rest)))
-  ends = let p = c .before .before .pair-in .ensures in (omega (arith, p .name ok, p .value ok), p .inside ok)
+  ends = let p = c .before .before .pair-in .ensures in (in-order _ _ _ _ (p .name ok) (p .value ok), p .inside ok)
+
+  reaches : c .before .before .pair-in .result .eq + 1 ≤ length (now (c .before .before .before .before .before .before .before .args .rest))
+  reaches = le-trans (ends .0) (le-of-lt (ends .1))
 
 returns : tie.Need-returns
 returns c = record { right = sym (not-true _ (c .if1 .taken)) ∙ c .before .before .pair-in .ensures .right; good = λ e. false-true e }
@@ -33,13 +47,13 @@ add-judge-pair : tie.Need-add-judge-pair
 add-judge-pair c = omega (arith, ends (c .before), c .before .before .before .before .before .before .before .before .good .1 .1 .1 .1 .1 .0)
 
 sub-judge-pair : tie.Need-sub-judge-pair
-sub-judge-pair c = omega (arith, ends (c .before))
+sub-judge-pair c = ends (c .before) .0
 
 part-judge-pair-start : tie.Need-part-judge-pair-start
-part-judge-pair-start c = omega (arith, ends (c .before))
+part-judge-pair-start c = ends (c .before) .0
 
 part-judge-pair-end : tie.Need-part-judge-pair-end
-part-judge-pair-end c = omega (arith, ends (c .before))
+part-judge-pair-end c = le-of-lt (ends (c .before) .1)
 
 judge-pair-requires : tie.Need-judge-pair-requires
 judge-pair-requires c κs = c .before .before .before .before .pair-in .ensures .known
@@ -51,7 +65,7 @@ add-put-said : tie.Need-add-put-said
 add-put-said c = omega (arith, ends (c .before .before .before .before .before .before .before .before .before), c .before .before .before .before .before .before .before .before .before .before .before .before .before .before .before .before .good .1 .1 .1 .1 .1 .0)
 
 slice-aggregate-put-said : tie.Need-slice-aggregate-put-said
-slice-aggregate-put-said c = sym (length-take-le _ _ (omega (arith, ends (c .before .before .before .before .before .before .before .before .before .before))))
+slice-aggregate-put-said c = sym (length-take-le _ _ (reaches (c .before .before .before .before .before .before .before .before .before .before)))
 
 put-said-requires : tie.Need-put-said-requires
 put-said-requires c κs =
@@ -59,8 +73,8 @@ put-said-requires c κs =
     let p = c .before .before .before .before .before .before .before .before .before .before .before .before .pair-in .ensures in
     let o = ok (c .before .before .before .before .before .before .before .before .before .before) in
     let n : length (nameIn (now (g .args .rest))) ≤ 63 = name-short (now (g .args .rest)) (sym (p .right) ∙ o) in
-    let m : length (take (c .before .before .before .before .before .before .before .before .before .before .before .before .pair-in .result .eq + 1) (now (g .args .rest))) ≡ c .before .before .before .before .before .before .before .before .before .before .before .before .pair-in .result .eq + 1 = length-take-le _ _ (omega (arith, ends (c .before .before .before .before .before .before .before .before .before .before))) in
-    (omega (arith, m, n, p .name o), g .pre)
+    let m : length (take (c .before .before .before .before .before .before .before .before .before .before .before .before .pair-in .result .eq + 1) (now (g .args .rest))) ≡ c .before .before .before .before .before .before .before .before .before .before .before .before .pair-in .result .eq + 1 = length-take-le _ _ (reaches (c .before .before .before .before .before .before .before .before .before .before)) in
+    (name-fits _ _ _ m (p .name o) n, g .pre)
 
 returns-2 : tie.Need-returns-2
 unfolding judgeAt answerText
@@ -80,7 +94,7 @@ returns-2 c =
         stops = rw (← j) (c .stop-of .ensures);
         settles = rw (← j, ← (p .key o)) (c .before .before .before .before .before .before .before .before .settle-pair .ensures);
         text = a;
-        few = omega (arith, a .count, said-length (nameIn rest) (judgeFirst (g .args .stage) (g .args .leading) (now (g .args .ours)) s rest) (name-short rest f));
+        few = said-fits _ _ _ (a .count) (said-length (nameIn rest) (judgeFirst (g .args .stage) (g .args .leading) (now (g .args .ours)) s rest) (name-short rest f));
         ended = p .value o;
         inside = p .inside o;
       };
@@ -89,6 +103,6 @@ returns-2 c =
 pub judge-first-spec : {M : Type 1} → statement M
 judge-first-spec =
     tie.close (tie.spec
-    (λ c κs. search needs) returns add-judge-pair sub-judge-pair part-judge-pair-start part-judge-pair-end
+    (λ c κs. tt) returns add-judge-pair sub-judge-pair part-judge-pair-start part-judge-pair-end
     judge-pair-requires settle-pair-requires add-put-said slice-aggregate-put-said put-said-requires
-    (λ c κs. search needs) (λ c. search needs) (λ c. search needs) returns-2)
+    (λ c κs. tt) (λ c. c .before .before .before .before .before .before .before .before .settle-pair .kept .1 .0) (λ c. c .before .before .before .put-said .kept .0) returns-2)
