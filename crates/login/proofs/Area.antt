@@ -1,18 +1,18 @@
--- The gather area: what is joined, judged and put back.
-use mathlib.Core.Path.{_≡_, refl, ap, _∙_}
-use mathlib.Core.Bool.{Bool, true, false}
+-- The gather area: what is joined, judged and put back; and the checks of a request, by which a piece fits it.
+use mathlib.Core.Path.{_≡_, refl, sym, ap, _∙_}
+use mathlib.Core.Bool.{Bool, true, false, not, _&&_, _||_}
 use mathlib.Core.List.{List, [], _∷_, _++_, append-assoc}
 use Prim.Native.Nat.{ℕ, zero, suc, _+_, _<_, _≤_}
 use native.Mathlib.Omega.{arith}
 use borrow.Author.Tests.{ne-eqb, ltb-false, leb-true}
 use lib.ListN.{length, getD, drop, take, length-append, length-drop, take-append-drop}
 use lib.Seq.{take-at, drop-at, length-take-le, take-add}
-use lib.Dec.{leb}
+use lib.Dec.{eqb, leb, ltb}
 use Rattle.text.specs.Text.{pick}
-use Rattle.text.proofs.Laws.{below, at}
+use Rattle.text.proofs.Laws.{below, at, past, here}
 use Rattle.request_header.specs.declared.Login.{Login}
-use Rattle.login.specs.Login.{Check, check, checks, firstBroken, statusOf, blockOf, joined}
-use Rattle.login.specs.Code.{Joined}
+use Rattle.login.specs.Login.{Check, check, checks, firstBroken, statusOf, start, permitted, differs, blockOf, joined}
+use Rattle.login.specs.Code.{Joined, laterBroken}
 use Rattle.login.specs.declared.state.State.{State}
 
 module _ (g : List ℕ) (at : ℕ) (d : List ℕ) (fit : at + length d ≤ length g) where
@@ -66,6 +66,30 @@ all-loud l q n live = refl
 pub status-kept : (l : State) (q : Login) (n live : ℕ) → statusOf l q n live ≡ 0 → (k : ℕ) → getD (checks l q n live) k (check false 1) .broken ≡ false
 unfolding statusOf loud
 status-kept l q n live e k = kept (checks l q n live) k e (λ i p. leb-true _ _ (at (loud l q n live) 8 (all-loud l q n live) i p))
+
+-- the rules of status 0x0200 as one
+or-pick : (a b : Bool) (x y : ℕ) → pick a x (pick b x y) ≡ pick (a || b) x y
+or-pick true b x y = refl
+or-pick false b x y = refl
+
+any-of : (a b c d e f : Bool) (x y : ℕ) → pick a x (pick b x (pick c x (pick d x (pick e x (pick f x y))))) ≡ pick (((((a || b) || c) || d) || e) || f) x y
+any-of a b c d e f x y =
+    or-pick a b x _ ∙ or-pick (a || b) c x _ ∙ or-pick ((a || b) || c) d x _ ∙ or-pick (((a || b) || c) || d) e x _ ∙ or-pick ((((a || b) || c) || d) || e) f x y
+
+pub status-version : (l : State) (q : Login) (n live : ℕ) → ltb 0 (q .«version_min») ≡ true → 0x0205 ≡ statusOf l q n live
+unfolding statusOf
+status-version l q n live a = sym (here _ _ _ a)
+
+module _ (l : State) (q : Login) (n live : ℕ) (a : ltb 0 (q .«version_min») ≡ false) where
+  pub status-handle : (not (eqb (q .tsih) 0) && not (eqb (q .tsih) live)) ≡ true → 0x020a ≡ statusOf l q n live
+  unfolding statusOf
+  status-handle b = sym (past _ _ _ _ a (here _ _ _ b))
+
+  module _ (b : (not (eqb (q .tsih) 0) && not (eqb (q .tsih) live)) ≡ false) where
+    pub status-later : (x : ℕ) → pick (laterBroken l q n) 0x0200 0 ≡ x → x ≡ statusOf l q n live
+    unfolding statusOf
+    status-later x e =
+        sym (past _ _ _ _ a (past _ _ _ _ b (any-of (l .begun && differs l q) (q .continues && q .transit) (l .begun && not (eqb (q .csg) (l .stage))) (not (l .begun) && not (permitted start (q .csg))) (q .transit && not (permitted (q .csg) (q .nsg))) (ltb 8192 (l .gathered + n)) 0x0200 0 ∙ e)))
 
 pub status-fits : (l : State) (q : Login) (n live : ℕ) → statusOf l q n live ≡ 0 → l .gathered + n ≤ 8192
 status-fits l q n live e = ltb-false 8192 (l .gathered + n) (status-kept l q n live e 7)

@@ -1,10 +1,10 @@
 -- What the code's answers hold, for the functions below the whole step.
 use Prim.Native.Nat.{ℕ, _+_, _≤_}
-use mathlib.Core.Bool.{Bool, true, false, not, _&&_}
+use mathlib.Core.Bool.{Bool, true, false, not, _&&_, _||_}
 use mathlib.Core.Path.{_≡_}
 use mathlib.Core.List.{List, _++_}
 use lib.ListN.{length, getD, take, drop}
-use lib.Dec.{eqb}
+use lib.Dec.{eqb, ltb}
 use Rattle.refusal.specs.Refusal.{number, status}
 use Rattle.request_header.specs.Request.{readPdu, limits}
 use Rattle.text.specs.Text.{pick}
@@ -13,7 +13,7 @@ use Rattle.request_header.specs.declared.Login.{Login}
 use Rattle.login.specs.declared.request.Found.{Found}
 use Rattle.login.specs.declared.request.Found.the-variants as N
 use Rattle.keys.specs.declared.parameters.Settled.{Settled}
-use Rattle.login.specs.Login.{ended, handle, stageAfter, settledLogin, joined, Outcome, refused, named, startText, requestStep, readStep, loginStep}
+use Rattle.login.specs.Login.{start, permitted, differs, ended, handle, stageAfter, settledLogin, joined, Outcome, refused, named, startText, requestStep, readStep, loginStep}
 use Rattle.login.specs.Block.{Result, stopped, went, judgeBlock, resultOf}
 use Rattle.login.specs.declared.block.Judged.{Judged}
 use Rattle.login.specs.declared.block.Verdict.{Verdict}
@@ -47,6 +47,14 @@ pub record Joined (g : List ℕ) (at : ℕ) (d new kept : List ℕ) (r : ℕ) : 
 abbrev pub finishStep : State → Login → ℕ → Settled → Verdict → Step
 finishStep l q new s (D.Refused status) = endStep l status
 finishStep l q new s (D.Answered n) = acceptStep q new s n
+
+-- ---- the checks
+
+-- one of the rules is broken whose status is 0x0200
+abbrev pub laterBroken : State → Login → ℕ → Bool
+laterBroken l q n =
+    (((((l .begun && differs l q) || (q .continues && q .transit)) || (l .begun && not (eqb (q .csg) (l .stage)))) || (not (l .begun) && not (permitted start (q .csg)))) || (q .transit && not (permitted (q .csg) (q .nsg))))
+    || ltb 8192 (l .gathered + n)
 
 -- ---- a judged block
 

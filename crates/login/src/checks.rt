@@ -47,22 +47,13 @@ pub fn status_of(l: State, q: Login, n: usize, live: u16) -> u16
     if (q.tsih != 0) & (q.tsih != live) {
         return 0x020a;
     }
-    if l.begun & is_other(l, q) {
-        return 0x0200;
-    }
-    if q.continues & q.transit {
-        return 0x0200;
-    }
-    if l.begun & (q.csg != l.stage) {
-        return 0x0200;
-    }
-    if !l.begun & !step_permitted(START, q.csg) {
-        return 0x0200;
-    }
-    if q.transit & !step_permitted(q.csg, q.nsg) {
-        return 0x0200;
-    }
-    if MAX_TEXT < l.gathered as usize + n {
+    let mut broken = l.begun & is_other(l, q);
+    broken = broken | (q.continues & q.transit);
+    broken = broken | (l.begun & (q.csg != l.stage));
+    broken = broken | (!l.begun & !step_permitted(START, q.csg));
+    broken = broken | (q.transit & !step_permitted(q.csg, q.nsg));
+    broken = broken | (MAX_TEXT < l.gathered as usize + n);
+    if broken {
         return 0x0200;
     }
     0
