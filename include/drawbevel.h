@@ -92,14 +92,14 @@ struct drawbevel_pdu {
     } request;
 };
 
-uint32_t drawbevel_core_read(const uint8_t *input, size_t length, uint64_t *pdu17);
+uint32_t drawbevel_core_read(const uint8_t *input, size_t length, uint64_t *common8, uint64_t *own9);
 
 /* Reads a PDU of exactly this length.
  * DRAWBEVEL_OK and the PDU; or the first of LENGTH (under 48 bytes), OPCODE, TOOLONG, LENGTH, FIELD,
  * which leaves *pdu as it was. */
 static inline uint32_t drawbevel_read(const uint8_t *input, size_t length, struct drawbevel_pdu *pdu)
 {
-    return drawbevel_core_read(input, length, &pdu->kind);
+    return drawbevel_core_read(input, length, &pdu->kind, pdu->request.words);
 }
 
 /* ---- responses written ---- */

@@ -12,7 +12,11 @@ fn main() {
     println!("cargo::rerun-if-env-changed=DRAWBEVEL_STATICLIB");
     let root = Path::new(env!("CARGO_MANIFEST_DIR")).join("../..");
     let folder = match env::var_os("DRAWBEVEL_STATICLIB") {
-        Some(archive) => PathBuf::from(archive).parent().expect("a file").to_owned(),
+        Some(archive) => {
+            let archive = PathBuf::from(archive);
+            println!("cargo::rerun-if-changed={}", archive.display());
+            archive.parent().expect("a file").to_owned()
+        }
         None => made(&root),
     };
     // The tests compile C programs against the same archive.

@@ -4,21 +4,10 @@ use mathlib.Core.List.{List}
 use lib.ListN.{length}
 use lib.Dec.{ltb}
 use Rattle.field.specs.Field.{pick}
-use Rattle.request_header.specs.Request.{Answer, got, refused}
 use Rattle.response_header.specs.Response.{Outcome, writing, maxData}
 use Rattle.response_header.specs.declared.Numbers.{Numbers}
 use Rattle.words.specs.declared.response.Made.{Made}
 use Rattle.words.specs.declared.response.Made.the-variants.{Known, Unknown}
-use Rattle.words.specs.Words.{pduWords}
-
--- 0 or the refusal's number, and the words after the call
-pub record ReadWords : Type 0 where
-  pub answer : ℕ
-  pub words : List ℕ
-
-unfoldable pub readWords : Answer → List ℕ → ReadWords
-readWords (got p) w = record { answer = 0; words = pduWords p }
-readWords (refused n) w = record { answer = n; words = w }
 
 abbrev pub numbersOf : ℕ → ℕ → ℕ → Numbers
 numbersOf s e m = record { «stat_sn» = s; «exp_cmd_sn» = e; «max_cmd_sn» = m }

@@ -1,6 +1,5 @@
 // The header reader and writer for C.
 use request_header::LIMITS;
-use request_header::Verdict;
 use response_header::MAX_DATA;
 use response_header::Numbers;
 use response_header::Response;
@@ -10,22 +9,19 @@ use words::response::response;
 ghost use mathlib.Core.Path.{_≡_};
 ghost use Rattle.request_header.specs.Request.{limits, readPdu};
 ghost use Rattle.response_header.specs.Response.{Outcome};
-ghost use Rattle.words.specs.Words.{responseOf};
-ghost use Rattle.capi.specs.Pdu.{ReadWords, readWords, writeWords, numbersOf};
+ghost use Rattle.words.specs.Words.{responseOf, ReadWords, readWords};
+ghost use Rattle.capi.specs.Pdu.{writeWords, numbersOf};
 
-// Reads a PDU: 0 and its words, or the refusal's number, which leaves pdu as it was.
+// Reads a PDU: 0 and its words, or the refusal's number, which leaves both arrays as they were.
 #[no_mangle]
-pub extern "C" fn drawbevel_core_read(input: &[u8], pdu: &mut [u64; 17]) -> u32
-    ensures { λ r. ⌜ _≡_ {A = ReadWords} (record { answer = r; words = now (pdu .exit) }) (readWords (readPdu limits (now (input .entry))) (now (pdu .entry))) ⌝ }
+pub extern "C" fn drawbevel_core_read(
+    input: &[u8],
+    common: &mut [u64; 8],
+    own: &mut [u64; 9],
+) -> u32
+    ensures { λ r. ⌜ _≡_ {A = ReadWords} (record { answer = r; common = now (common .exit); own = now (own .exit) }) (readWords (readPdu limits (now (input .entry))) (now (common .entry)) (now (own .entry))) ⌝ }
 {
-    match request_header::judge::judge(input, LIMITS) {
-        Verdict::Refused(f) => refusal::number_of(f) as u32,
-        Verdict::Good => {
-            let w = words::request::words(input);
-            *pdu = w;
-            0
-        }
-    }
+    words::request::read(input, LIMITS, common, own)
 }
 
 fn write_known(out: &mut [u8], r: Response, n: Numbers) -> u32

@@ -98,7 +98,15 @@ pub fn judge_request(
     ensures { λ r. ⌜ JudgedIn judged stage leading (now (ours .entry)) s at (now (piece .entry)) r (now (gather .entry)) (now (text .entry)) (now (gather .exit)) (now (text .exit)) ⌝ }
 {
     if at == 0 {
-        return judge_text(s, judged, stage, leading, ours, piece, text);
+        return judge_text(
+            s,
+            judged,
+            stage,
+            leading,
+            ours,
+            block_of(piece, gather, at),
+            text,
+        );
     }
     let mut kept = [0u8; 8192];
     let total = join(gather, at, piece, &mut kept);

@@ -4,7 +4,7 @@ use field::be;
 ghost use mathlib.Core.Path.{_≡_};
 ghost use Prim.Native.Nat.{_^_, _≤_, _<_};
 ghost use lib.ListN.{length};
-ghost use Rattle.request_header.specs.Request.{dataLengthOf, dataStartOf, statedLength};
+ghost use Rattle.request_header.specs.Request.{dataLengthOf, dataStartOf};
 
 pub fn data_length(s: &[u8]) -> usize
     requires { ⌜ 48 ≤ length (now s) ⌝ }
@@ -19,11 +19,4 @@ pub fn data_start(s: &[u8]) -> usize
     ensures { λ r. ⌜ (r ≡ dataStartOf (now (s .entry))) × (r ≤ 1068) ⌝ }
 {
     HEADER_BYTES + s[4] as usize * 4
-}
-
-pub fn stated_length(s: &[u8]) -> usize
-    requires { ⌜ 48 ≤ length (now s) ⌝ }
-    ensures { λ r. ⌜ r ≡ statedLength (now (s .entry)) ⌝ }
-{
-    data_start(s) + (data_length(s) + 3) / 4 * 4
 }

@@ -1,7 +1,7 @@
 // A read PDU: its common fields together with one of six requests. Fields are named as RFC 7143 names them.
 pub mod judge;
 pub mod lengths;
-mod rules;
+pub mod rules;
 
 use refusal::Refusal;
 ghost use mathlib.Core.Path.{_≡_};

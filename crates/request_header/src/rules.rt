@@ -1,16 +1,20 @@
-// The field rules of the requests, over the bytes of a header. Each breach is FIELD.
+// The field rules of the requests, over the bytes of a header. Each breach is FIELD. Each kind has its rules whole, so that who reads one
+// kind looks at no other.
 use crate::Limits;
 use crate::lengths::data_length;
-use field::NONE;
-use field::be32;
+use field::be;
 use field::flag;
 ghost use mathlib.Core.Path.{_≡_};
-ghost use mathlib.Core.Bool.{_||_, _&&_};
+ghost use mathlib.Core.Bool.{true, _||_, _&&_};
 ghost use Prim.Native.Nat.{_≤_, _%_};
 ghost use lib.ListN.{length};
-ghost use lib.Dec.{leb};
-ghost use Rattle.field.specs.Field.{bit};
-ghost use Rattle.request_header.specs.Request.{known, sharedOk, snackOk, ruleOk, pduOf, requestOf};
+ghost use lib.Dec.{leb, eqb};
+ghost use Rattle.field.specs.Field.{byte, bit};
+ghost use Rattle.request_header.specs.declared.Limits.{Limits};
+ghost use Rattle.request_header.specs.Request.{known, snackOk, fieldsOk, opcodeOf};
+
+// The tag that stands for none, as wide as a field is read.
+const NONE: u64 = 0xffff_ffff;
 
 // Whether the opcode names a request that is read here.
 pub(crate) fn is_known(op: u8) -> bool
@@ -19,12 +23,19 @@ pub(crate) fn is_known(op: u8) -> bool
     (op <= 3) | (op == 0x06) | (op == 0x10)
 }
 
-// The rules that all requests share: byte 1's highest bit, and TotalAHSLength.
-pub(crate) fn shared_ok(s: &[u8], op: u8) -> bool
+// Byte 1's highest bit is set, and TotalAHSLength is 0.
+fn plain(s: &[u8]) -> bool
     requires { ⌜ 48 ≤ length (now s) ⌝ }
-    ensures { λ r. ⌜ r ≡ sharedOk op (now (s .entry)) ⌝ }
+    ensures { λ r. ⌜ r ≡ bit (byte (now (s .entry)) 1) 128 && eqb (byte (now (s .entry)) 4) 0 ⌝ }
 {
-    (flag(s[1], 128) | (op == 0x01) | (op == 0x03)) & ((s[4] == 0) | (op == 0x01))
+    flag(s[1], 128) & (s[4] == 0)
+}
+
+pub fn nop_out_ok(s: &[u8]) -> bool
+    requires { ⌜ 48 ≤ length (now s) ⌝ }
+    ensures { λ r. ⌜ ((m : Limits) → r ≡ fieldsOk m 0x00 (now (s .entry))) ⌝ }
+{
+    plain(s) & ((be(s, 16, 4) != NONE) | flag(s[0], 64))
 }
 
 // What a SCSI Command's byte 1 must be: attribute at most 4, F and W not both clear.
@@ -37,32 +48,67 @@ fn command_ok(b: u8) -> bool
     (attribute <= 4) & (is_final | is_write)
 }
 
-// What a SNACK's type asks of its two tags.
-fn snack_ok(snack_type: u8, itt: u32, ttt: u32) -> bool
-    ensures { λ r. ⌜ r ≡ snackOk «snack_type» itt ttt ⌝ }
+pub fn scsi_command_ok(s: &[u8]) -> bool
+    requires { ⌜ 48 ≤ length (now s) ⌝ }
+    ensures { λ r. ⌜ ((m : Limits) → r ≡ fieldsOk m 0x01 (now (s .entry))) ⌝ }
 {
-    (snack_type <= 3)
-        & ((snack_type != 1) & (snack_type != 2) | (itt == NONE))
-        & ((snack_type != 0) & (snack_type != 1) | (ttt == NONE))
-        & ((snack_type != 3) | (ttt != 0) & (ttt != NONE))
+    command_ok(s[1])
 }
 
-// The rules of the request's own kind.
-pub(crate) fn rule_ok(s: &[u8], op: u8, limits: Limits) -> bool
+pub fn task_management_ok(s: &[u8], limits: Limits) -> bool
     requires { ⌜ 48 ≤ length (now s) ⌝ }
-    ensures { λ r. ⌜ r ≡ ruleOk limits (pduOf op (now (s .entry))) (requestOf op (now (s .entry))) ⌝ }
+    ensures { λ r. ⌜ r ≡ fieldsOk limits 0x02 (now (s .entry)) ⌝ }
 {
-    let first = s[0];
-    let b = s[1];
+    let function = s[1] % 128;
+    plain(s) & ((1 <= function) & (function <= limits.task_function) & (data_length(s) == 0))
+}
+
+pub fn login_ok(s: &[u8]) -> bool
+    requires { ⌜ 48 ≤ length (now s) ⌝ }
+    ensures { λ r. ⌜ ((m : Limits) → r ≡ fieldsOk m 0x03 (now (s .entry))) ⌝ }
+{
+    (s[4] == 0) & flag(s[0], 64)
+}
+
+pub fn logout_ok(s: &[u8]) -> bool
+    requires { ⌜ 48 ≤ length (now s) ⌝ }
+    ensures { λ r. ⌜ ((m : Limits) → r ≡ fieldsOk m 0x06 (now (s .entry))) ⌝ }
+{
+    plain(s) & ((s[1] % 128 <= 2) & (data_length(s) == 0))
+}
+
+// What a SNACK's type asks of its two tags.
+fn tags_ok(snack_type: u8, itt: u64, ttt: u64) -> bool
+    ensures { λ r. ⌜ r ≡ snackOk «snack_type» itt ttt ⌝ }
+{
+    match snack_type {
+        0 => ttt == NONE,
+        1 => (itt == NONE) & (ttt == NONE),
+        2 => itt == NONE,
+        3 => (ttt != 0) & (ttt != NONE),
+        _ => false,
+    }
+}
+
+pub fn snack_ok(s: &[u8]) -> bool
+    requires { ⌜ 48 ≤ length (now s) ⌝ }
+    ensures { λ r. ⌜ ((m : Limits) → r ≡ fieldsOk m 0x10 (now (s .entry))) ⌝ }
+{
+    plain(s) & tags_ok(s[1] % 16, be(s, 16, 4), be(s, 20, 4))
+}
+
+// The rules of the kind that the opcode names.
+pub(crate) fn fields_ok(s: &[u8], limits: Limits) -> bool
+    requires { ⌜ (48 ≤ length (now s)) × (known (opcodeOf (now s)) ≡ true) ⌝ }
+    ensures { λ r. ⌜ r ≡ fieldsOk limits (opcodeOf (now (s .entry))) (now (s .entry)) ⌝ }
+{
+    let op = s[0] % 64;
     match op {
-        0x00 => (be32(s, 16) != NONE) | flag(first, 64),
-        0x01 => command_ok(b),
-        0x02 => {
-            let function = b % 128;
-            (1 <= function) & (function <= limits.task_function) & (data_length(s) == 0)
-        }
-        0x03 => flag(first, 64),
-        0x06 => (b % 128 <= 2) & (data_length(s) == 0),
-        _ => snack_ok(b % 16, be32(s, 16), be32(s, 20)),
+        0x00 => nop_out_ok(s),
+        0x01 => scsi_command_ok(s),
+        0x02 => task_management_ok(s, limits),
+        0x03 => login_ok(s),
+        0x06 => logout_ok(s),
+        _ => snack_ok(s),
     }
 }

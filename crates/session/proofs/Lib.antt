@@ -1,4 +1,5 @@
 -- Laws of the session.
+pub mod Requests
 pub mod Steps
 pub mod PastWindow
 pub mod PastConns

@@ -6,7 +6,13 @@ use field::be32;
 use field::flag;
 use refusal::Refusal;
 use request_header::LIMITS;
-use request_header::Verdict;
+use request_header::judge::frame;
+use request_header::judge::refusal_of;
+use request_header::lengths::data_length;
+use request_header::rules::logout_ok;
+use request_header::rules::nop_out_ok;
+use request_header::rules::scsi_command_ok;
+use request_header::rules::task_management_ok;
 use store::HEADER_BYTES;
 use window::Taken;
 use window::WINDOW_BYTES;
@@ -14,11 +20,10 @@ use window::WINDOW_SLOTS;
 use window::Window;
 ghost use mathlib.Core.Path.{_≡_};
 ghost use mathlib.Core.List.{List, []};
-ghost use mathlib.Core.Bool.{true, false};
+ghost use mathlib.Core.Bool.{_&&_};
 ghost use Prim.Native.Nat.{ℕ, _≤_};
 ghost use lib.ListN.{length};
-ghost use lib.Dec.{eqb};
-ghost use Rattle.request_header.specs.Request.{limits, readPdu, got, pduOf, requestOf, opcodeOf};
+ghost use Rattle.request_header.specs.Request.{limits, readPdu, fieldsOk, requestOf};
 ghost use Rattle.session.specs.Book.{Call, isOffered, offeredAs};
 ghost use Rattle.session.specs.Agree.{Did, state, offeredOf, offerAnswer, afterOffer, takeAnswer, afterTake};
 
@@ -46,45 +51,41 @@ pub struct TakeStep {
     pub window: Window,
 }
 
-// Whether the opcode is that of a request that is offered.
-fn is_offered(op: u8) -> bool
-    ensures { λ x. ⌜ ((s : List ℕ) → x ≡ isOffered (requestOf op s)) × (x ≡ true → eqb op 0x10 ≡ false) ⌝ }
+// Whether a header is of a kind that is offered and meets its rules; another kind is FIELD either way.
+fn is_offered(s: &[u8], op: u8) -> bool
+    requires { ⌜ 48 ≤ length (now s) ⌝ }
+    ensures { λ r. ⌜ r ≡ fieldsOk limits op (now (s .entry)) && isOffered (requestOf op (now (s .entry))) ⌝ }
 {
     match op {
-        0x00 => true,
-        0x01 => true,
-        0x02 => true,
-        0x03 => false,
-        0x06 => true,
+        0x00 => nop_out_ok(s),
+        0x01 => scsi_command_ok(s),
+        0x02 => task_management_ok(s, LIMITS),
+        0x06 => logout_ok(s),
         _ => false,
     }
 }
 
-// What a good PDU is as an offer: FIELD for another kind, immediate where I is set, else numbered. Of its fields only these are taken
-// from the bytes.
-fn offered_as(pdu: &[u8]) -> Offered
-    requires { ⌜ 48 ≤ length (now pdu) ⌝ }
-    ensures { λ r. ⌜ offeredOf r ≡ offeredAs (got (pduOf (opcodeOf (now (pdu .entry))) (now (pdu .entry)))) ⌝ }
-{
-    let first = pdu[0];
-    if is_offered(first % 64) {
-        if flag(first, 64) {
-            Offered::Immediate
-        } else {
-            Offered::Numbered(be32(pdu, 24))
-        }
-    } else {
-        Offered::Refused(Refusal::Field)
-    }
-}
-
-// Reads an offered PDU.
+// Reads an offered PDU: reading's refusals, FIELD for another kind, immediate where I is set, else numbered. Of its fields only these are
+// taken from the bytes.
 fn read_offer(pdu: &[u8]) -> Offered
     ensures { λ r. ⌜ offeredOf r ≡ offeredAs (readPdu limits (now (pdu .entry))) ⌝ }
 {
-    match request_header::judge::judge(pdu, LIMITS) {
-        Verdict::Refused(f) => Offered::Refused(f),
-        Verdict::Good => offered_as(pdu),
+    if pdu.len() < HEADER_BYTES {
+        return Offered::Refused(Refusal::Length);
+    }
+    let first = pdu[0];
+    let op = first % 64;
+    let f = frame(pdu.len(), op, pdu[4], data_length(pdu), LIMITS);
+    if f != 0 {
+        return Offered::Refused(refusal_of(f));
+    }
+    if !is_offered(pdu, op) {
+        return Offered::Refused(Refusal::Field);
+    }
+    if flag(first, 64) {
+        Offered::Immediate
+    } else {
+        Offered::Numbered(be32(pdu, 24))
     }
 }
 

@@ -12,7 +12,10 @@ use ledger::Run;
 use ledger::Sent;
 use refusal::Refusal;
 use request_header::LIMITS;
-use request_header::Verdict;
+use request_header::judge::frame;
+use request_header::judge::refusal_of;
+use request_header::lengths::data_length;
+use request_header::rules::snack_ok;
 use response_header::Response;
 use store::HEADER_BYTES;
 ghost use mathlib.Core.Path.{_≡_};
@@ -130,30 +133,22 @@ fn run_in(level: u8, pdu: &[u8]) -> Asked
     }
 }
 
-// What a good PDU asks for: FIELD for another kind.
-fn asked_by(level: u8, pdu: &[u8]) -> Asked
-    requires { ⌜ 48 ≤ length (now pdu) ⌝ }
-    ensures { λ x. ⌜ askedOf x ≡ askedBy level (requestOf (opcodeOf (now (pdu .entry))) (now (pdu .entry))) ⌝ }
-{
-    let op = pdu[0] % 64;
-    match op {
-        0x00 => Asked::Refused(Refusal::Field),
-        0x01 => Asked::Refused(Refusal::Field),
-        0x02 => Asked::Refused(Refusal::Field),
-        0x03 => Asked::Refused(Refusal::Field),
-        0x06 => Asked::Refused(Refusal::Field),
-        _ => run_in(level, pdu),
-    }
-}
-
-// Reads the PDU of a SNACK call.
+// Reads the PDU of a SNACK call: reading's refusals, FIELD for another kind.
 fn read_snack(level: u8, pdu: &[u8]) -> Asked
     ensures { λ r. ⌜ askedOf r ≡ asked level (readPdu limits (now (pdu .entry))) ⌝ }
 {
-    match request_header::judge::judge(pdu, LIMITS) {
-        Verdict::Refused(f) => Asked::Refused(f),
-        Verdict::Good => asked_by(level, pdu),
+    if pdu.len() < HEADER_BYTES {
+        return Asked::Refused(Refusal::Length);
     }
+    let op = pdu[0] % 64;
+    let f = frame(pdu.len(), op, pdu[4], data_length(pdu), LIMITS);
+    if f != 0 {
+        return Asked::Refused(refusal_of(f));
+    }
+    if (op != 0x10) | !snack_ok(pdu) {
+        return Asked::Refused(Refusal::Field);
+    }
+    run_in(level, pdu)
 }
 
 // The run that a SNACK PDU on a connection asks for. NOCONN, CLOSED, reading's refusals, FIELD for another kind, SNACK.

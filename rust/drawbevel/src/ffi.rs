@@ -7,8 +7,33 @@ mod c;
 use c::*;
 use std::mem::MaybeUninit;
 
-/// Words of a PDU: opcode, common fields, place of the data, the kind's own fields.
-pub type PduWords = [u64; 17];
+/// Words of a PDU: the opcode, the common fields and the place of the data, and the kind's own fields.
+pub struct PduWords {
+    common: [u64; 8],
+    own: [u64; 9],
+}
+
+impl PduWords {
+    /// Word `place` of the opcode, the common fields and the place of the data.
+    #[inline]
+    pub fn common(&self, place: usize) -> u64 {
+        alone(&self.common[place])
+    }
+
+    /// Word `place` of the kind's own fields.
+    #[inline]
+    pub fn own(&self, place: usize) -> u64 {
+        alone(&self.own[place])
+    }
+}
+
+/// A word, loaded by itself: one load of two words that were just stored one by one would wait for both stores.
+#[inline]
+fn alone(word: &u64) -> u64 {
+    // SAFETY: a reference to a word.
+    unsafe { std::ptr::read_volatile(word) }
+}
+
 /// Words of a response: opcode and its fields.
 pub type ResponseWords = [u64; 10];
 /// A session's answer: a refusal's number or an answer's, and what it carries.
@@ -46,16 +71,22 @@ pub struct LoginParts {
     seen: Seen,
 }
 
-/// What `taken` makes of the PDU's words where they stand, or a refusal's number.
+/// What `got` makes of the PDU's words where they stand, or `refused` of a refusal's number.
 #[inline]
-pub fn read<T>(input: &[u8], taken: impl FnOnce(&PduWords) -> T) -> Result<T, u32> {
-    let mut pdu = MaybeUninit::uninit();
-    // SAFETY: pointer and length are those of one slice, and both references live through the call, which reads no word
-    // and has written all of them where it answers 0.
+pub fn read<T>(
+    input: &[u8],
+    got: impl FnOnce(&PduWords) -> T,
+    refused: impl FnOnce(u32) -> T,
+) -> T {
+    let mut pdu = MaybeUninit::<PduWords>::uninit();
+    let words = pdu.as_mut_ptr();
+    // SAFETY: pointer and length are those of one slice, all of it lives through the call, the two arrays are fields of one
+    // struct, and the call reads no word of them and has written all where it answers 0.
     unsafe {
-        match drawbevel_core_read(input.as_ptr(), input.len(), pdu.as_mut_ptr()) {
-            0 => Ok(taken(pdu.assume_init_ref())),
-            number => Err(number),
+        let (common, own) = (&raw mut (*words).common, &raw mut (*words).own);
+        match drawbevel_core_read(input.as_ptr(), input.len(), common, own) {
+            0 => got(pdu.assume_init_ref()),
+            number => refused(number),
         }
     }
 }

@@ -4,10 +4,11 @@ use crate::ffi;
 use crate::words::{pdu_of, refusal_of, words_of};
 use calls::{Numbers, Pdu, Refusal, Response};
 
-/// Read a whole PDU.
-#[inline]
+/// Read a whole PDU. A function of its own, which writes the fields of each kind straight to their places in the answer: inlined,
+/// the answer would be taken apart and put together again.
+#[inline(never)]
 pub fn read(input: &[u8]) -> Result<Pdu, Refusal> {
-    ffi::read(input, pdu_of).map_err(|number| refusal_of(number, 0))
+    ffi::read(input, pdu_of, |number| Err(refusal_of(number, 0)))
 }
 
 /// Write a response's header into the first 48 bytes of `out`.

@@ -26,60 +26,80 @@ pub fn refusal_of(number: u32, status: u16) -> Refusal {
     }
 }
 
-/// The PDU of its words.
+/// A PDU: its common fields, and the request.
 #[inline]
-pub fn pdu_of(w: &PduWords) -> Pdu {
-    let own = &w[8..];
-    let request = match w[0] {
-        0x00 => Request::NopOut(NopOut { ttt: own[0] as u32 }),
-        0x01 => Request::ScsiCommand(ScsiCommand {
-            final_bit: own[0] != 0,
-            read: own[1] != 0,
-            write: own[2] != 0,
-            attribute: own[3] as u8,
-            total_ahs_length: own[4] as u8,
-            expected_data_transfer_length: own[5] as u32,
-            cdb: [own[6], own[7]],
-        }),
-        0x02 => Request::TaskManagement(TaskManagement {
-            function: own[0] as u8,
-            referenced_task_tag: own[1] as u32,
-            ref_cmd_sn: own[2] as u32,
-            exp_data_sn: own[3] as u32,
-        }),
-        0x03 => Request::Login(Login {
-            transit: own[0] != 0,
-            continues: own[1] != 0,
-            csg: own[2] as u8,
-            nsg: own[3] as u8,
-            version_max: own[4] as u8,
-            version_min: own[5] as u8,
-            isid: own[6],
-            tsih: own[7] as u16,
-            cid: own[8] as u16,
-        }),
-        0x06 => Request::Logout(Logout {
-            reason: own[0] as u8,
-            cid: own[1] as u16,
-        }),
-        _ => Request::Snack(Snack {
-            kind: own[0] as u8,
-            ttt: own[1] as u32,
-            beg_run: own[2] as u32,
-            run_length: own[3] as u32,
-        }),
-    };
-    Pdu {
-        immediate: w[1] != 0,
-        cmd_sn: w[2] as u32,
-        lun: w[3],
-        itt: w[4] as u32,
-        exp_stat_sn: w[5] as u32,
+fn pdu(w: &PduWords, request: Request) -> Result<Pdu, Refusal> {
+    Ok(Pdu {
+        immediate: w.common(1) & 1 != 0,
+        cmd_sn: w.common(2) as u32,
+        lun: w.common(3),
+        itt: w.common(4) as u32,
+        exp_stat_sn: w.common(5) as u32,
         request,
         data: Data {
-            offset: w[6] as usize,
-            length: w[7] as usize,
+            offset: w.common(6) as usize,
+            length: w.common(7) as usize,
         },
+    })
+}
+
+/// The PDU of its words. Each kind's is made whole in its arm, so that its fields go straight to their places.
+#[inline]
+pub fn pdu_of(w: &PduWords) -> Result<Pdu, Refusal> {
+    let own = |place| w.own(place);
+    match w.common(0) {
+        0x00 => pdu(w, Request::NopOut(NopOut { ttt: own(0) as u32 })),
+        0x01 => {
+            let command = ScsiCommand {
+                final_bit: own(0) & 1 != 0,
+                read: own(1) & 1 != 0,
+                write: own(2) & 1 != 0,
+                attribute: own(3) as u8,
+                total_ahs_length: own(4) as u8,
+                expected_data_transfer_length: own(5) as u32,
+                cdb: [own(6), own(7)],
+            };
+            pdu(w, Request::ScsiCommand(command))
+        }
+        0x02 => {
+            let task = TaskManagement {
+                function: own(0) as u8,
+                referenced_task_tag: own(1) as u32,
+                ref_cmd_sn: own(2) as u32,
+                exp_data_sn: own(3) as u32,
+            };
+            pdu(w, Request::TaskManagement(task))
+        }
+        0x03 => {
+            let login = Login {
+                transit: own(0) & 1 != 0,
+                continues: own(1) & 1 != 0,
+                csg: own(2) as u8,
+                nsg: own(3) as u8,
+                version_max: own(4) as u8,
+                version_min: own(5) as u8,
+                isid: own(6),
+                tsih: own(7) as u16,
+                cid: own(8) as u16,
+            };
+            pdu(w, Request::Login(login))
+        }
+        0x06 => {
+            let logout = Logout {
+                reason: own(0) as u8,
+                cid: own(1) as u16,
+            };
+            pdu(w, Request::Logout(logout))
+        }
+        _ => {
+            let snack = Snack {
+                kind: own(0) as u8,
+                ttt: own(1) as u32,
+                beg_run: own(2) as u32,
+                run_length: own(3) as u32,
+            };
+            pdu(w, Request::Snack(snack))
+        }
     }
 }
 

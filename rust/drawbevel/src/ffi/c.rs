@@ -1,12 +1,17 @@
 //! The declarations, in the order and with the widths of `include/drawbevel.h`.
 
 use super::{
-    Answer, Headers, LoginNumbers, LoginWords, Maps, Numbers, PduWords, ResponseWords, Seen,
+    Answer, Headers, LoginNumbers, LoginWords, Maps, Numbers, ResponseWords, Seen,
     StatusTickets, Statuses, Tickets, Values,
 };
 
 unsafe extern "C" {
-    pub fn drawbevel_core_read(input: *const u8, length: usize, pdu: *mut PduWords) -> u32;
+    pub fn drawbevel_core_read(
+        input: *const u8,
+        length: usize,
+        common: *mut [u64; 8],
+        own: *mut [u64; 9],
+    ) -> u32;
     pub fn drawbevel_core_write(
         out: *mut u8,
         length: usize,

@@ -1,4 +1,5 @@
 -- Nothing was gathered, or the piece was joined to what was, and what stood there is put back where the block is refused.
+use Rattle.login.specs.Login.{blockOf}
 use Rattle.login.proofs.Answers.{judged-own, judged-joined}
 use Prim.Native.Nat.{_-_}
 use native.Mathlib.Nat.{le-trans}
@@ -9,7 +10,10 @@ use Rattle.login.proofs.gather.judge_request.Statement.{statement}
 use Rattle.login.proofs.gather.judge_request.Tie as tie
 
 returns : tie.Need-returns
-returns c = judged-own _ _ _ _ _ _ _ _ _ _ _ (eq-eqb _ 0 (c .before .before .before .before .if1 .taken)) (c .before .before .judge-text .ensures)
+unfolding blockOf
+returns c =
+    let e = eq-eqb _ 0 (c .before .before .before .before .before .before .if1 .taken) in
+    judged-own _ _ _ _ _ _ _ _ _ _ _ e (rw (c .before .before .before .before .block-of .ensures, e) at (c .before .before .judge-text .ensures))
 
 undo-requires : tie.Need-undo-requires
 undo-requires c κs =
@@ -19,11 +23,11 @@ undo-requires c κs =
 returns-2 : tie.Need-returns-2
 returns-2 c =
     let p = c .before .before .before .before .before .before .before .before .before .before .before .before .before .before .before .before .before .before .before .before .before .before .pre in
-    judged-joined _ _ _ _ _ _ _ _ _ _ _ _ _ _ _ _ (c .before .before .before .before .before .before .before .before .before .before .before .before .before .before .before .before .before .if1 .left) (le-trans (p .2) (p .0)) (c .before .before .before .before .before .before .before .before .before .before .before .before .before .before .join .ensures) (c .before .before .before .before .before .before .before .before .before .block-of .ensures) (c .before .before .before .before .before .before .before .judge-text2 .ensures) (c .before .before .undo .ensures)
+    judged-joined _ _ _ _ _ _ _ _ _ _ _ _ _ _ _ _ (c .before .before .before .before .before .before .before .before .before .before .before .before .before .before .before .before .before .if1 .left) (le-trans (p .2) (p .0)) (c .before .before .before .before .before .before .before .before .before .before .before .before .before .before .join .ensures) (c .before .before .before .before .before .before .before .before .before .block-of2 .ensures) (c .before .before .before .before .before .before .before .judge-text2 .ensures) (c .before .before .undo .ensures)
 
 pub judge-request-spec : {M : Type 1} → statement M
 judge-request-spec =
     tie.close (tie.spec
-    (λ c κs. c .before .before .before .before .before .before .pre .1) (λ c. c .before .before .judge-text .kept .1 .1 .1 .1 .1 .1 .0) returns (λ c. search needs) (λ c κs. search needs)
+    (λ c κs. search needs) (λ c κs. c .before .before .before .before .before .before .before .before .pre .1) (λ c. search needs) (λ c. c .before .before .judge-text .kept .1 .1 .1 .1 .1 .1 .0) returns (λ c. search needs) (λ c κs. search needs)
     (λ c κs. search needs) (λ c κs. c .before .before .before .before .before .before .before .before .before .before .before .before .before .before .pre .1) (λ c. search needs) undo-requires (λ c. search needs)
     (λ c. c .before .before .before .before .before .before .before .judge-text2 .kept .1 .1 .1 .1 .1 .1 .0) returns-2)

@@ -1,23 +1,22 @@
-use native.Mathlib.Omega.{arith}
-use Rattle.words.specs.Words.{requestWords}
 use borrow.Author.Needs.{needs}
+use borrow.Author.Tests.{not-true, not-false}
+use Rattle.request_header.specs.Request.{pduOf, requestOf}
+use Rattle.request_header.proofs.FieldRules.{and-true}
+use Rattle.words.specs.Words.{commonWords, ownWords, opcodeWord}
+use Rattle.words.proofs.Reading.{kind-read, kind-refused, be-one}
 use Rattle.words.proofs.request.login.Statement.{statement}
 use Rattle.words.proofs.request.login.Tie as tie
 
-cast-t18 : tie.Need-cast-t18
-cast-t18 c = omega (arith, c .shared-slice-known3 .given 2)
-
-cast-t21 : tie.Need-cast-t21
-cast-t21 c = omega (arith, c .shared-slice-known4 .given 3)
-
 returns : tie.Need-returns
-unfolding requestWords
-returns c =
-    let a = c .before .before .before .before .before .before .before .before .pre in
-    rw (c .before .before .before .before .flag2 .ensures, c .before .before .before .before .before .flag .ensures, c .before .before .flag4 .ensures, c .before .before .before .flag3 .ensures, a .1, a .2, a .3)
+returns c m = kind-refused _ _ _ _ _ _ (c .before .login-ok .ensures m) (not-true _ (c .if1 .taken))
+
+returns-2 : tie.Need-returns-2
+unfolding commonWords ownWords opcodeWord pduOf requestOf
+returns-2 c m =
+    kind-read _ _ _ _ _ _ (c .before .before .before .before .before .before .before .before .before .before .before .before .before .before .login-ok .ensures m) (not-false _ (c .before .before .before .before .before .before .before .before .before .before .before .before .before .if1 .left)) _ _
+    (rw (c .before .before .before .before .before .before .before .before .before .put-common .ensures, c .before .before .before .before .before .before .before .before .before .before .before .before .immediate .ensures, c .before .before .before .before .before .before .before .before .before .before .before .be .ensures .0, and-true))
+    (rw (c .before .before .before .before .before .before .before .bit-word .ensures, c .before .before .before .before .before .before .bit-word2 .ensures, c .before .before .before .before .before .before .before .before .be2 .ensures .0, be-one, c .before .before .before .before .before .be3 .ensures .0, be-one, c .before .before .before .before .be4 .ensures .0, be-one, c .before .before .before .be5 .ensures .0, c .before .before .be6 .ensures .0, c .before .be7 .ensures .0))
 
 pub login-spec : {M : Type 1} → statement M
 login-spec =
-    tie.close (tie.spec
-    (λ c. search needs) (λ c κs. search needs) (λ c κs. search needs) (λ c κs. search needs) (λ c κs. search needs)
-    (λ c. search needs) (λ c. search needs) (λ c. search needs) cast-t18 (λ c. search needs) cast-t21 returns)
+    tie.close (tie.spec (λ c κs. search needs) returns (λ c κs. search needs) (λ c κs. search needs) (λ c κs. search needs) (λ c κs. search needs) (λ c κs. search needs) (λ c κs. search needs) (λ c κs. search needs) (λ c κs. search needs) (λ c κs. search needs) (λ c κs. search needs) (λ c κs. search needs) returns-2)
