@@ -1,5 +1,5 @@
 -- The answer to a judged pair, in bytes.
-use Prim.Native.Nat.{ℕ, _-_}
+use Prim.Native.Nat.{ℕ, _-_, _≤_}
 use mathlib.Core.Bool.{Bool, true, false}
 use mathlib.Core.List.{List, [], _∷_, _++_}
 use lib.ListN.{take, drop}
@@ -66,3 +66,9 @@ words = bytes "Reject\0NotUnderstood\0Yes\0No\0None\0RFC3720\0"
 abbrev pub saidBytes : Said → List ℕ
 saidBytes (S.Number n) = decimal 10 n ++ (0 ∷ [])
 saidBytes (S.Word a e) = take (e - a) (drop a words)
+
+-- a part of the words, and short
+pub record WordIn (a e : ℕ) : Type 0 where
+  pub starts : a ≤ e
+  pub ends : e ≤ 41
+  pub short : e - a ≤ 14

@@ -7,22 +7,8 @@ ghost use mathlib.Core.Path.{_≡_};
 ghost use Prim.Native.Nat.{_+_, _≤_};
 ghost use lib.ListN.{length};
 ghost use Rattle.text.specs.Text.{Appended};
-ghost use Rattle.keys.specs.Answer.{isSilent, saidOf, saidBytes, replyIn, answerFrom};
-
-fn is_silent(r: Reply) -> bool
-    ensures { λ b. ⌜ b ≡ isSilent r ⌝ }
-{
-    match r {
-        Reply::Silent => true,
-        Reply::Reject => false,
-        Reply::NotUnderstood => false,
-        Reply::Yes => false,
-        Reply::No => false,
-        Reply::None => false,
-        Reply::Rfc3720 => false,
-        Reply::Number(_) => false,
-    }
-}
+ghost use mathlib.Core.List.{_++_};
+ghost use Rattle.keys.specs.Answer.{saidOf, saidBytes, WordIn, replyIn, answerFrom};
 
 // A reply with its zero byte: a number in decimal, or the bytes of a word among `words`.
 pub enum Said {
@@ -45,32 +31,34 @@ fn said_of(r: Reply) -> Said
     }
 }
 
-fn put_reply(out: &mut [u8], at: usize, r: Reply) -> usize
-    requires { ⌜ at + 14 ≤ length (now out) ⌝ }
-    ensures { λ n. ⌜ Appended (now (out .entry)) at (saidBytes (saidOf r)) (now (out .exit)) n ⌝ }
+// What a judged pair is answered: nothing where it is refused.
+fn said_in(j: Judgement) -> Said
+    ensures { λ s. ⌜ s ≡ saidOf (replyIn j) ⌝ }
 {
-    let s = said_of(r);
-    match s {
-        Said::Number(n) => {
-            let d = put_decimal(out, at, n);
-            append(out, d, b"\0")
-        }
-        Said::Word(a, e) => {
-            let words: &[u8] = b"Reject\0NotUnderstood\0Yes\0No\0None\0RFC3720\0";
-            append(out, at, &words[a..e])
-        }
+    match j {
+        Judgement::Refused(_) => Said::Word(0, 0),
+        Judgement::Said(r) => said_of(r),
+        Judgement::Settles(_, r) => said_of(r),
     }
 }
 
-// What a judged pair is answered: nothing where it is refused.
-fn reply_in(j: Judgement) -> Reply
-    ensures { λ r. ⌜ r ≡ replyIn j ⌝ }
+fn put_number(out: &mut [u8], at: usize, start: &[u8], n: u32) -> usize
+    requires { ⌜ (length (now start) ≤ 64) × (at + 78 ≤ length (now out)) ⌝ }
+    ensures { λ r. ⌜ Appended (now (out .entry)) at (now (start .entry) ++ saidBytes (Said.Number n)) (now (out .exit)) r ⌝ }
 {
-    match j {
-        Judgement::Refused(_) => Reply::Silent,
-        Judgement::Said(r) => r,
-        Judgement::Settles(_, r) => r,
-    }
+    let a = append(out, at, start);
+    let d = put_decimal(out, a, n);
+    out[d] = 0;
+    d + 1
+}
+
+fn put_word(out: &mut [u8], at: usize, start: &[u8], a: usize, e: usize) -> usize
+    requires { ⌜ ((length (now start) ≤ 64) × (at + 78 ≤ length (now out))) × WordIn a e ⌝ }
+    ensures { λ r. ⌜ Appended (now (out .entry)) at (now (start .entry) ++ saidBytes (Said.Word a e)) (now (out .exit)) r ⌝ }
+{
+    let p = append(out, at, start);
+    let words: &[u8] = b"Reject\0NotUnderstood\0Yes\0No\0None\0RFC3720\0";
+    append(out, p, &words[a..e])
 }
 
 // What a judged pair adds to the answer: the name and =, which are given, the reply and a zero byte; nothing for a good declaration.
@@ -78,10 +66,14 @@ pub fn put_said(out: &mut [u8], at: usize, start: &[u8], j: Judgement) -> usize
     requires { ⌜ (length (now start) ≤ 64) × (at + 78 ≤ length (now out)) ⌝ }
     ensures { λ n. ⌜ Appended (now (out .entry)) at (answerFrom (now (start .entry)) (replyIn j)) (now (out .exit)) n ⌝ }
 {
-    let r = reply_in(j);
-    if is_silent(r) {
-        return at;
+    let s = said_in(j);
+    match s {
+        Said::Number(n) => put_number(out, at, start, n),
+        Said::Word(a, e) => {
+            if e == 0 {
+                return at;
+            }
+            put_word(out, at, start, a, e)
+        }
     }
-    let a = append(out, at, start);
-    put_reply(out, a, r)
 }
