@@ -14,7 +14,6 @@ use Rattle.keys.specs.declared.value.Reply.{Reply}
 use Rattle.keys.specs.declared.value.Reply.the-variants as A
 use Rattle.keys.specs.declared.value.Judgement.{Judgement}
 use Rattle.keys.specs.declared.answer.Said.{Said}
-use Rattle.keys.specs.declared.answer.Said.the-variants as S
 
 pub reply-length : (r : Reply) → length (replyBytes r) ≤ 13
 unfolding replyBytes
@@ -38,8 +37,11 @@ answer-length n r h = pair-length (isSilent r) n (replyBytes r) h (reply-length 
 pub said-length : (n : List ℕ) (j : Judgement) → length n ≤ 63 → length (saidText n j) ≤ 78
 said-length n j h = answer-length n (replyIn j) h
 
--- What the code says is the reply and a zero byte.
-said-is : (r : Reply) → isSilent r ≡ false → saidBytes (saidOf r) ≡ replyBytes r ++ (0 ∷ [])
+-- What the code says is the reply and a zero byte, and only no answer ends at 0.
+abbrev sayings : Reply → List ℕ
+sayings r = saidBytes (saidOf r .0) (saidOf r .1) (saidOf r .2)
+
+said-is : (r : Reply) → isSilent r ≡ false → sayings r ≡ replyBytes r ++ (0 ∷ [])
 unfolding replyBytes
 said-is A.Silent e = cc
 said-is A.Reject e = refl
@@ -50,57 +52,32 @@ said-is A.None e = refl
 said-is A.Rfc3720 e = refl
 said-is (A.Number n) e = refl
 
-said-from : (s : List ℕ) (r : Reply) → isSilent r ≡ false → answerFrom s r ≡ s ++ saidBytes (saidOf r)
-said-from s r e = rw e (append-assoc s (replyBytes r) (0 ∷ []) ∙ ap (λ (x : List ℕ). s ++ x) (sym (said-is r e)))
+abbrev sound : Reply → Bool
+sound r = leb (saidOf r .1) 41 && leb (saidOf r .1 - saidOf r .0) 14
 
--- Only no answer is a word that ends at 0.
-abbrev endOf : Said → ℕ
-endOf (S.Number n) = 1
-endOf (S.Word a e) = e
+all-sound : (r : Reply) → ((isSilent r ≡ eqb (saidOf r .1) 0) × (sound r ≡ true))
+all-sound A.Silent = (refl, refl)
+all-sound A.Reject = (refl, refl)
+all-sound A.NotUnderstood = (refl, refl)
+all-sound A.Yes = (refl, refl)
+all-sound A.No = (refl, refl)
+all-sound A.None = (refl, refl)
+all-sound A.Rfc3720 = (refl, refl)
+all-sound (A.Number n) = (refl, refl)
 
-silent-end : (r : Reply) → isSilent r ≡ eqb (endOf (saidOf r)) 0
-silent-end A.Silent = refl
-silent-end A.Reject = refl
-silent-end A.NotUnderstood = refl
-silent-end A.Yes = refl
-silent-end A.No = refl
-silent-end A.None = refl
-silent-end A.Rfc3720 = refl
-silent-end (A.Number n) = refl
+module _ (s : List ℕ) (r : Reply) {x : Said} (q : x ≡ saidOf r) where
+  silent-by : isSilent r ≡ eqb (x .1) 0
+  silent-by = all-sound r .0 ∙ ap (λ (y : Said). eqb (y .1) 0) (sym q)
 
-module _ (s : List ℕ) (r : Reply) where
-  silent-by : (x : Said) → saidOf r ≡ x → isSilent r ≡ eqb (endOf x) 0
-  silent-by x q = silent-end r ∙ ap (λ (y : Said). eqb (endOf y) 0) q
+  pub said-none : x .1 ≡ 0 → answerFrom s r ≡ []
+  said-none z = here (isSilent r) _ _ (silent-by ∙ eq-eqb (x .1) 0 z)
 
-  said-by : (x : Said) → saidOf r ≡ x → isSilent r ≡ false → answerFrom s r ≡ s ++ saidBytes x
-  said-by x q e = said-from s r e ∙ ap (λ (y : Said). s ++ saidBytes y) q
+  pub said-some : (x .1 ≡ 0 → ⊥) → answerFrom s r ≡ s ++ saidBytes (x .0) (x .1) (x .2)
+  said-some n =
+      let e : isSilent r ≡ false = silent-by ∙ ne-eqb (x .1) 0 n in
+      rw e (append-assoc s (replyBytes r) (0 ∷ []) ∙ ap (λ (b : List ℕ). s ++ b) (sym (said-is r e) ∙ ap (λ (y : Said). saidBytes (y .0) (y .1) (y .2)) (sym q)))
 
-  pub said-number : (n : ℕ) → saidOf r ≡ S.Number n → answerFrom s r ≡ s ++ saidBytes (S.Number n)
-  said-number n q = said-by (S.Number n) q (silent-by (S.Number n) q)
-
-  pub said-word : (a e : ℕ) → saidOf r ≡ S.Word a e → (e ≡ 0 → ⊥) → answerFrom s r ≡ s ++ saidBytes (S.Word a e)
-  said-word a e q n = said-by (S.Word a e) q (silent-by (S.Word a e) q ∙ ne-eqb e 0 n)
-
-  pub said-none : (a e : ℕ) → saidOf r ≡ S.Word a e → e ≡ 0 → answerFrom s r ≡ []
-  said-none a e q z = here (isSilent r) _ _ (silent-by (S.Word a e) q ∙ eq-eqb e 0 z)
-
--- a word lies among the words, and is short
-abbrev fits : Said → Bool
-fits (S.Number n) = true
-fits (S.Word a e) = leb a e && (leb e 41 && leb (e - a) 14)
-
-all-fit : (r : Reply) → fits (saidOf r) ≡ true
-all-fit A.Silent = refl
-all-fit A.Reject = refl
-all-fit A.NotUnderstood = refl
-all-fit A.Yes = refl
-all-fit A.No = refl
-all-fit A.None = refl
-all-fit A.Rfc3720 = refl
-all-fit (A.Number n) = refl
-
-pub word-in : (r : Reply) (a e : ℕ) → saidOf r ≡ S.Word a e → WordIn a e
-word-in r a e q =
-    let t : fits (S.Word a e) ≡ true = ap fits (sym q) ∙ all-fit r in
-    let u = &&-right (leb a e) (leb e 41 && leb (e - a) 14) t in
-    record { starts = leb-true a e (&&-left _ _ t); ends = leb-true e 41 (&&-left _ _ u); short = leb-true (e - a) 14 (&&-right (leb e 41) _ u) }
+  pub said-in-words : WordIn (x .0) (x .1)
+  said-in-words =
+      let t : (leb (x .1) 41 && leb (x .1 - x .0) 14) ≡ true = ap (λ (y : Said). leb (y .1) 41 && leb (y .1 - y .0) 14) q ∙ all-sound r .1 in
+      record { ends = leb-true _ _ (&&-left _ _ t); short = leb-true _ _ (&&-right (leb (x .1) 41) _ t) }

@@ -1,32 +1,32 @@
-use Rattle.keys.proofs.Said.{said-none, said-number, said-word, word-in}
-use Rattle.text.proofs.Laws.{appended-none}
 use Rattle.keys.specs.Answer.{replyIn}
-use mathlib.Core.Path.{sym, _∙_}
+use Rattle.keys.proofs.Said.{said-none, said-some, said-in-words}
+use Rattle.text.proofs.Laws.{appended-none, appended-then}
+use denote.Ref.{now}
+use native.Mathlib.Omega.{arith}
 use borrow.Author.Needs.{needs}
 use Rattle.keys.proofs.answer.put_said.Statement.{statement}
 use Rattle.keys.proofs.answer.put_said.Tie as tie
 
 returns : tie.Need-returns
 returns c =
-    let m = c .before .before .before .before in
-    rw (said-none _ _ _ _ (sym (m .said-in .ensures) ∙ c .before .before .s2 .given .1) (c .if1 .taken)) (appended-none _ _)
+    let g = c .before .before .before .before .args in
+    rw (said-none (now (g .start)) (replyIn (g .j)) (c .before .said-in .ensures) (c .if1 .taken)) (appended-none _ _)
 
-put-word-requires : tie.Need-put-word-requires
-put-word-requires c κs =
-    let m = c .before .before .before .before .before in
-    (m .before .before .before .pre, word-in (replyIn (m .before .before .before .args .j)) _ _ (sym (m .said-in .ensures) ∙ c .before .before .before .s2 .given .1))
+put-reply-requires : tie.Need-put-reply-requires
+put-reply-requires c κs =
+    let a = c .before .before .before .append in
+    let m = c .before .before .before .before .before .before in
+    let g = m .before .before .before in
+    (omega (arith, a .ensures .count, a .kept, g .pre), said-in-words (now (g .args .start)) (replyIn (g .args .j)) (m .said-in .ensures))
 
 returns-2 : tie.Need-returns-2
 returns-2 c =
-    let m = c .before .before .before .before .before .before .before in
-    rw (said-number _ _ _ (sym (m .said-in .ensures) ∙ c .before .before .before .before .before .s .given .1)) (c .before .before .put-number .ensures)
-
-returns-3 : tie.Need-returns-3
-returns-3 c =
-    let m = c .before .before .before .before .before .before .before .before in
-    rw (said-word _ _ _ _ (sym (m .said-in .ensures) ∙ c .before .before .before .before .before .before .s2 .given .1) (c .before .before .before .before .if1 .left)) (c .before .before .put-word .ensures)
+    let m = c .before .before .before .before .before .before .before .before .before in
+    let g = m .before .before .before .args in
+    rw (said-some (now (g .start)) (replyIn (g .j)) (m .said-in .ensures) (c .before .before .before .before .before .before .before .before .if1 .left))
+    (appended-then (c .before .before .before .before .before .before .append .ensures) (c .before .before .put-reply .ensures))
 
 pub put-said-spec : {M : Type 1} → statement M
 put-said-spec =
     tie.close (tie.spec
-    (λ c κs. search needs) (λ c. search needs) (λ c κs. search needs) (λ c. search needs) returns put-word-requires (λ c. search needs) returns-2 (λ c. search needs) returns-3)
+    (λ c κs. search needs) returns (λ c κs. search needs) put-reply-requires (λ c. search needs) returns-2)

@@ -2,7 +2,6 @@
 use Rattle.keys.proofs.Tables.{code, in-table}
 use borrow.Author.Tests.{leb-true}
 use mathlib.Core.Path.{refl}
-use borrow.Author.Needs.{needs}
 use Rattle.keys.proofs.judge.judge_value.Statement.{statement}
 use Rattle.keys.proofs.judge.judge_value.Tie as tie
 
@@ -50,8 +49,8 @@ returns-11 c = rw (← (c .before .before .kind-of .ensures), c .enum-told11 .gi
 pub judge-value-spec : {M : Type 1} → statement M
 judge-value-spec =
     tie.close (tie.spec
-    (λ c κs. c .before .before .pre) (λ c. search needs) settle-requires (λ c. search needs) settle-requires-2 (λ c. search needs) (λ c κs. search needs)
-    (λ c. search needs) (λ c κs. search needs) (λ c. search needs) (λ c κs. search needs) (λ c. search needs)
-    (λ c κs. search needs) (λ c. search needs) (λ c κs. search needs) (λ c. search needs) (λ c κs. search needs)
-    (λ c. search needs) (λ c. search needs) (λ c. search needs) returns returns-2 returns-3 returns-4 returns-5 returns-6
-    returns-7 returns-8 returns-9 returns-10 returns-11)
+    (λ c κs. c .before .before .pre) (λ c. c .match .keys1) settle-requires (λ c. c .match .keys2) settle-requires-2
+    (λ c. c .match .keys3) (λ c κs. tt) (λ c. c .match .keys4) (λ c κs. tt) (λ c. c .match .keys5) (λ c κs. tt)
+    (λ c. c .match .keys6) (λ c κs. tt) (λ c. c .match .keys7) (λ c κs. tt) (λ c. c .match .keys8) (λ c κs. tt)
+    (λ c. c .match .keys9) (λ c. c .match .keys10) (λ c. c .match .keys11) returns returns-2 returns-3 returns-4
+    returns-5 returns-6 returns-7 returns-8 returns-9 returns-10 returns-11)

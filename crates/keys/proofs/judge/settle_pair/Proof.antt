@@ -25,5 +25,5 @@ returns-4 c =
 pub settle-pair-spec : {M : Type 1} → statement M
 settle-pair-spec =
     tie.close (tie.spec
-    returns (λ c. search needs) (λ c. search needs) (λ c κs. search needs) (λ c. search needs) (λ c κs. search needs)
-    (λ c κs. search needs) returns-2 returns-3 (λ c. search needs) returns-4)
+    returns (λ c. c .match .keys1) (λ c. c .match .keys2) (λ c κs. search needs) (λ c. c .match .keys3) (λ c κs. search needs)
+    (λ c κs. tt) returns-2 returns-3 (λ c. search needs) returns-4)

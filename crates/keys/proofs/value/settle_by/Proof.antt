@@ -31,5 +31,5 @@ returns-8 c = rw (c .before .enum-told4 .given .1, c .if4 .left)
 pub settle-by-spec : {M : Type 1} → statement M
 settle-by-spec =
     tie.close (tie.spec
-    (λ c. search needs) (λ c. search needs) (λ c. search needs) (λ c. search needs) (λ c. search needs) returns returns-2
+    (λ c. c .match .keys1) (λ c. c .match .keys2) (λ c. c .match .keys3) (λ c. c .match .keys4) (λ c. c .match .keys5) returns returns-2
     returns-3 returns-4 returns-5 returns-6 returns-7 returns-8 (λ c. search needs))
