@@ -6,22 +6,13 @@ use Prim.Native.Nat.{ℕ, _<_}
 use lib.Dec.{eqb, ltb, leb}
 use Rattle.text.specs.Text.{pick}
 use Rattle.text.proofs.Laws.{below, at, &&-left, &&-right, &&-true, here, past}
+use Rattle.keys.proofs.Tables.{agree, agrees}
 use Rattle.keys.specs.Table.{kindAt, known}
 use Rattle.keys.specs.Judge.{stands, leadingOnly, judgeBy, judgeKey}
 use Rattle.keys.specs.declared.table.Kind.{Kind}
 use Rattle.keys.specs.declared.table.Kind.the-variants as K
 use Rattle.keys.specs.declared.value.Judgement.{Judgement}
 use Rattle.keys.specs.declared.value.Judgement.the-variants as J
-
--- Two tests say the same.
-abbrev agree : Bool → Bool → Bool
-agree true b = b
-agree false b = not b
-
-agrees : (a b : Bool) → agree a b ≡ true → a ≡ b
-agrees true b e = sym e
-agrees false true e = e
-agrees false false e = refl
 
 -- Operational keys and the security key by their kind, and by their place.
 abbrev secure : Kind → Bool

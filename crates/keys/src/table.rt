@@ -46,20 +46,20 @@ pub struct Row {
 pub const KNOWN: usize = 28;
 
 // The table of twelve keys, in the order of their names; its standard values and ours are those of Parameters.
-const RULES: [Rule; 12] = [
-    Rule::Least,
-    Rule::Least,
-    Rule::Or,
-    Rule::Or,
-    Rule::Or,
-    Rule::And,
-    Rule::Declared,
-    Rule::Least,
-    Rule::Least,
-    Rule::Greatest,
-    Rule::Least,
-    Rule::Least,
-];
+fn rule_of(k: usize) -> Rule
+    requires { ⌜ k < 12 ⌝ }
+    ensures { λ r. ⌜ r ≡ rowAt k .rule ⌝ }
+{
+    match k {
+        2 => Rule::Or,
+        3 => Rule::Or,
+        4 => Rule::Or,
+        5 => Rule::And,
+        6 => Rule::Declared,
+        9 => Rule::Greatest,
+        _ => Rule::Least,
+    }
+}
 
 const LOWS: [u32; 12] = [1, 1, 0, 0, 0, 0, 512, 512, 512, 0, 0, 0];
 
@@ -82,7 +82,7 @@ pub fn row_of(k: usize) -> Row
     requires { ⌜ k < 12 ⌝ }
     ensures { λ r. ⌜ r ≡ rowAt k ⌝ }
 {
-    let rule = RULES[k];
+    let rule = rule_of(k);
     Row {
         rule,
         low: LOWS[k],
