@@ -115,13 +115,14 @@ pub fn kind_of(k: usize) -> Kind
 fn candidate(name: &[u8]) -> usize
     ensures { λ r. ⌜ (keyOf (now (name .entry)) < 28 → r ≡ keyOf (now (name .entry))) × (r ≤ 28) ⌝ }
 {
-    if name.len() < 4 {
+    let n = name.len();
+    if n < 4 {
         return KNOWN;
     }
-    if 24 < name.len() {
+    if 24 < n {
         return KNOWN;
     }
-    let place = (name.len() * 4 + name[0] as usize * 3 + name[3] as usize) % 64;
+    let place = (n * 4 + name[0] as usize * 3 + name[3] as usize) % 64;
     let keys =
         b"\x1c\x1c\x1c\x10\x1c\x08\x0b\x13\x1c\x1b\x1c\x11\x1c\x1c\x1c\x18\x1c\x1c\x1c\x0f\x1c\x0d\x1c\x19\x12\x06\x1c\x0e\x14\x1c\x1c\x1c\x16\x07\x00\x1c\x1c\x03\x1c\x1c\x1c\x1c\x1c\x1c\x0c\x09\x15\x1c\x1c\x1c\x17\x1a\x05\x0a\x1c\x02\x1c\x04\x01\x1c\x1c\x1c\x1c\x1c";
     keys[place] as usize

@@ -95,8 +95,8 @@ fn settle_by(rule: Rule, a: u32, b: u32) -> u32
     match rule {
         Rule::Least => if a < b { a } else { b },
         Rule::Greatest => if a < b { b } else { a },
-        Rule::Or => if (a == 1) | (b == 1) { 1 } else { 0 },
-        Rule::And => if (a == 1) & (b == 1) { 1 } else { 0 },
+        Rule::Or => ((a == 1) | (b == 1)) as u32,
+        Rule::And => ((a == 1) & (b == 1)) as u32,
         Rule::Declared => a,
     }
 }

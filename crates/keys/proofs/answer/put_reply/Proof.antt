@@ -31,5 +31,5 @@ returns-2 c =
 pub put-reply-spec : {M : Type 1} → statement M
 put-reply-spec =
     tie.close (tie.spec
-    (λ c. search needs) (λ c. search needs) (λ c. search needs) (λ c. search needs) (λ c κs. search needs) (λ c. search needs) returns
-    (λ c κs. search needs) slice-write-out add-result same-length-2 returns-2)
+    (λ c. omega arith) (λ c. omega arith) (λ c. omega arith) (λ c. omega arith) (λ c κs. search needs) (λ c. c .before .before .append .kept .0) returns
+    (λ c κs. omega arith) slice-write-out add-result same-length-2 returns-2)

@@ -3,7 +3,6 @@ use Rattle.keys.proofs.Said.{said-none, said-some, said-in-words}
 use Rattle.text.proofs.Laws.{appended-none, appended-then}
 use denote.Ref.{now}
 use native.Mathlib.Omega.{arith}
-use borrow.Author.Needs.{needs}
 use Rattle.keys.proofs.answer.put_said.Statement.{statement}
 use Rattle.keys.proofs.answer.put_said.Tie as tie
 
@@ -29,4 +28,4 @@ returns-2 c =
 pub put-said-spec : {M : Type 1} → statement M
 put-said-spec =
     tie.close (tie.spec
-    (λ c κs. search needs) returns (λ c κs. search needs) put-reply-requires (λ c. search needs) returns-2)
+    (λ c κs. tt) returns (λ c κs. omega arith) put-reply-requires (λ c. omega arith) returns-2)

@@ -1,6 +1,6 @@
+use native.Mathlib.Omega.{arith}
 use Rattle.keys.specs.Judge.{after}
 use borrow.Author.Tests.{eq-eqb, ne-eqb}
-use borrow.Author.Needs.{needs}
 use Rattle.keys.proofs.judge.settle_pair.Statement.{statement}
 use Rattle.keys.proofs.judge.settle_pair.Tie as tie
 
@@ -25,5 +25,5 @@ returns-4 c =
 pub settle-pair-spec : {M : Type 1} → statement M
 settle-pair-spec =
     tie.close (tie.spec
-    returns (λ c. c .match .keys1) (λ c. c .match .keys2) (λ c κs. search needs) (λ c. c .match .keys3) (λ c κs. search needs)
-    (λ c κs. tt) returns-2 returns-3 (λ c. search needs) returns-4)
+    returns (λ c. c .match .keys1) (λ c. c .match .keys2) (λ c κs. omega arith) (λ c. c .match .keys3) (λ c κs. omega arith)
+    (λ c κs. tt) returns-2 returns-3 (λ c. c .before .before .put .kept .0) returns-4)

@@ -1,6 +1,6 @@
+use native.Mathlib.Omega.{arith}
 use Rattle.keys.specs.Table.{rows}
 use Rattle.keys.proofs.Tables.{columns}
-use borrow.Author.Needs.{needs}
 use Rattle.keys.proofs.table.row_of.Statement.{statement}
 use Rattle.keys.proofs.table.row_of.Tie as tie
 
@@ -11,5 +11,5 @@ returns c = rw (c .rule-of .ensures) (columns (c .before .args .k) (c .before .p
 pub row-of-spec : {M : Type 1} → statement M
 row-of-spec =
     tie.close (tie.spec
-    (λ c κs. c .pre) (λ c. search needs) (λ c. search needs) (λ c. search needs) (λ c. search needs)
-    (λ c. search needs) (λ c. search needs) (λ c. search needs) (λ c. search needs) returns)
+    (λ c κs. c .pre) (λ c. omega arith) (λ c. omega arith) (λ c. omega arith) (λ c. omega arith)
+    (λ c. omega arith) (λ c. omega arith) (λ c. omega arith) (λ c. omega arith) returns)
