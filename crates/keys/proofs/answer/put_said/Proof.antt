@@ -1,3 +1,4 @@
+-- A reply that ends at 0 is no answer; any other is put after the name and =.
 use Rattle.keys.specs.Answer.{replyIn}
 use Rattle.keys.proofs.Said.{said-none, said-some, said-in-words}
 use Rattle.text.proofs.Laws.{appended-none, appended-then}

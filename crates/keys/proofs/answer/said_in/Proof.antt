@@ -1,3 +1,4 @@
+-- A refused pair is answered nothing, any other its reply.
 use Rattle.keys.proofs.answer.said_in.Statement.{statement}
 use Rattle.keys.proofs.answer.said_in.Tie as tie
 

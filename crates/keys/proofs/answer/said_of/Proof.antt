@@ -1,3 +1,4 @@
+-- Each reply is said by its own place among the words.
 use Rattle.keys.proofs.answer.said_of.Statement.{statement}
 use Rattle.keys.proofs.answer.said_of.Tie as tie
 

@@ -1,3 +1,4 @@
+-- One test over the keys says where each may stand.
 use Rattle.keys.proofs.Standing.{stands-at}
 use Rattle.keys.proofs.judge.may_stand.Statement.{statement}
 use Rattle.keys.proofs.judge.may_stand.Tie as tie

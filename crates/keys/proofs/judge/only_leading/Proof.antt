@@ -1,3 +1,4 @@
+-- One test over the keys says which wait for a leading login.
 use Rattle.keys.proofs.Standing.{leading-at}
 use Rattle.keys.proofs.judge.only_leading.Statement.{statement}
 use Rattle.keys.proofs.judge.only_leading.Tie as tie

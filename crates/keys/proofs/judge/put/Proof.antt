@@ -1,3 +1,4 @@
+-- A place that is not there is set by nothing.
 use native.Mathlib.Omega.{arith}
 use lib.Seq.{set-out}
 use lib.ListN.{length-set}

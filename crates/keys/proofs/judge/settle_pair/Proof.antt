@@ -1,3 +1,4 @@
+-- The definition goes by the same cases: an unknown key, then each judgement.
 use native.Mathlib.Omega.{arith}
 use Rattle.keys.specs.Judge.{after}
 use borrow.Author.Tests.{eq-eqb, ne-eqb}

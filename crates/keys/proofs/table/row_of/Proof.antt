@@ -1,3 +1,4 @@
+-- The columns of the code are the fields of the rows.
 use native.Mathlib.Omega.{arith}
 use Rattle.keys.specs.Table.{rows}
 use Rattle.keys.proofs.Tables.{columns}

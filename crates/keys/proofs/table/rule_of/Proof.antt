@@ -1,3 +1,4 @@
+-- Six keys have a rule of their own; one test says that the others take the least.
 use Rattle.keys.specs.Table.{rows, rowAt}
 use Rattle.keys.proofs.Tables.{rule-least}
 use borrow.Author.Tests.{ne-eqb}

@@ -1,3 +1,4 @@
+-- One test over the rows says which are boolean.
 use Rattle.keys.proofs.Tables.{bool-at}
 use Rattle.keys.proofs.value.is_bool.Statement.{statement}
 use Rattle.keys.proofs.value.is_bool.Tie as tie

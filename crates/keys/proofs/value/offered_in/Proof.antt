@@ -1,3 +1,4 @@
+-- The form is that of a boolean or of a number, and then the range decides.
 use Rattle.keys.proofs.value.offered_in.Statement.{statement}
 use Rattle.keys.proofs.value.offered_in.Tie as tie
 

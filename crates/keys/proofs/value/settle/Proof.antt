@@ -1,3 +1,4 @@
+-- The row of the key, the offer in it, and what the two settle, as in the definition.
 use Rattle.keys.specs.Settle.{settling, offered}
 use Rattle.keys.proofs.value.settle.Statement.{statement}
 use Rattle.keys.proofs.value.settle.Tie as tie

@@ -1,3 +1,4 @@
+-- Each rule is its own case; a bit is the number of its test.
 use native.Mathlib.Omega.{arith}
 use borrow.Author.Tests.{lt-ltb, le-ltb}
 use mathlib.Core.Path.{_≡_, refl}
