@@ -1,3 +1,4 @@
 pub mod Tables
 pub mod Said
 pub mod Ranges
+pub mod Standing

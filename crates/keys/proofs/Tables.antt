@@ -1,6 +1,6 @@
 -- The tables of the code are those of the definitions: each rule is one test, computed over the whole table.
 use mathlib.Core.Path.{_≡_, refl, sym, ap, _∙_, subst}
-use mathlib.Core.Bool.{Bool, true, false, _&&_, _||_}
+use mathlib.Core.Bool.{Bool, true, false, not, _&&_, _||_}
 use mathlib.Core.List.{List, [], _∷_, map}
 use Prim.Native.Nat.{ℕ, zero, suc, _+_, _*_, _-_, _%_, _<_, _≤_}
 use native.Mathlib.Omega.{arith}
@@ -13,6 +13,7 @@ use Rattle.text.proofs.Laws.{below, at, same-eq, &&-left, &&-right, false-true}
 use Rattle.text.specs.Text.{pick, all}
 use Rattle.text.specs.Block.{goodName, nameByte}
 use Rattle.keys.specs.Table.{Known, known, key, keyOf, nameAt, kindAt, placeIn, row, rows, rowAt}
+use Rattle.keys.specs.Settle.{isBool}
 use Rattle.keys.specs.declared.table.Kind.{Kind}
 use Rattle.keys.specs.declared.table.Kind.the-variants as K
 use Rattle.keys.specs.declared.table.Rule.{Rule}
@@ -172,9 +173,9 @@ column f [] k d e h = absurd (not-suc-le-zero h)
 column f (x ∷ l) zero d e h = refl
 column f (x ∷ l) (suc k) d e h = column f l k d e (le-of-suc-le-suc h)
 
-module _ (k : ℕ) (h : k < 12) (r : Rule) (n : ℕ) where
+module _ (k : ℕ) (h : k < 12) (n : ℕ) where
   pub columns : _≡_ {A = Row} (record {
-    rule = getD (map (λ (q : Row). q .rule) rows) k r;
+    rule = rowAt k .rule;
     low = getD (map (λ (q : Row). q .low) rows) k n;
     high = getD (map (λ (q : Row). q .high) rows) k n;
     standard = getD (map (λ (q : Row). q .standard) rows) k n;
@@ -183,7 +184,7 @@ module _ (k : ℕ) (h : k < 12) (r : Rule) (n : ℕ) where
   unfolding rowAt rows
   columns =
       let e = row R.Declared 0 0 0 0 in
-      rw (column (λ (q : Row). q .rule) rows k r e h, column (λ (q : Row). q .low) rows k n e h, column (λ (q : Row). q .high) rows k n e h, column (λ (q : Row). q .standard) rows k n e h, column (λ (q : Row). q .ours) rows k n e h)
+      rw (column (λ (q : Row). q .low) rows k n e h, column (λ (q : Row). q .high) rows k n e h, column (λ (q : Row). q .standard) rows k n e h, column (λ (q : Row). q .ours) rows k n e h)
 
 -- What a key is: a test over a run of keys, past those that are skipped.
 unfoldable pub code : Kind → ℕ
@@ -261,3 +262,47 @@ or-left false b e h = false-true (sym e ∙ h)
 pub in-table : (k : ℕ) → k < 28 → code (kindAt k) ≤ 1 → k < 12
 unfolding tabled
 in-table k h c = ltb-true k 12 (or-left _ _ (le-ltb _ _ c) (at tabled 28 twelve k h))
+
+-- Two tests say the same.
+abbrev pub agree : Bool → Bool → Bool
+agree true b = b
+agree false b = not b
+
+pub agrees : (a b : Bool) → agree a b ≡ true → a ≡ b
+agrees true b e = sym e
+agrees false true e = e
+agrees false false e = refl
+
+-- The rule of a row, and whether its values are boolean, by its place.
+abbrev is-least : Rule → Bool
+is-least R.Least = true
+is-least R.Greatest = false
+is-least R.Or = false
+is-least R.And = false
+is-least R.Declared = false
+
+least-only : (r : Rule) → is-least r ≡ true → r ≡ R.Least
+least-only R.Least e = refl
+least-only R.Greatest e = false-true e
+least-only R.Or e = false-true e
+least-only R.And e = false-true e
+least-only R.Declared e = false-true e
+
+abbrev other : ℕ → Bool
+other k = (((((eqb k 2 || eqb k 3) || eqb k 4) || eqb k 5) || eqb k 6) || eqb k 9)
+
+ruled : ℕ → Bool
+ruled k = (other k || is-least (rowAt k .rule)) && agree (leb 2 k && leb k 5) (isBool (rowAt k .rule))
+
+all-ruled : below ruled 12 ≡ true
+unfolding ruled rowAt rows
+all-ruled = refl
+
+module _ (k : ℕ) (h : k < 12) where
+  pub rule-least : other k ≡ false → R.Least ≡ rowAt k .rule
+  unfolding ruled
+  rule-least n = sym (least-only _ (or-right (other k) _ n (&&-left _ _ (at ruled 12 all-ruled k h))))
+
+  pub bool-at : (leb 2 k && leb k 5) ≡ isBool (rowAt k .rule)
+  unfolding ruled
+  bool-at = agrees _ _ (&&-right (other k || is-least (rowAt k .rule)) _ (at ruled 12 all-ruled k h))

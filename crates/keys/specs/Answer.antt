@@ -1,8 +1,9 @@
 -- The answer to a judged pair, in bytes.
-use Prim.Native.Nat.{ℕ, _-_}
+use Prim.Native.Nat.{ℕ, _-_, _≤_}
 use mathlib.Core.Bool.{Bool, true, false}
 use mathlib.Core.List.{List, [], _∷_, _++_}
 use lib.ListN.{take, drop}
+use lib.Dec.{ltb}
 use Rattle.text.specs.Text.{pick, bytes}
 use Rattle.text.specs.Number.{decimal}
 use Rattle.keys.specs.declared.value.Reply.{Reply}
@@ -10,7 +11,6 @@ use Rattle.keys.specs.declared.value.Reply.the-variants as A
 use Rattle.keys.specs.declared.value.Judgement.{Judgement}
 use Rattle.keys.specs.declared.value.Judgement.the-variants as J
 use Rattle.keys.specs.declared.answer.Said.{Said}
-use Rattle.keys.specs.declared.answer.Said.the-variants as S
 
 -- numbers in decimal
 unfoldable pub replyBytes : Reply → List ℕ
@@ -49,20 +49,24 @@ replyIn (J.Settles x r) = r
 abbrev pub saidText : List ℕ → Judgement → List ℕ
 saidText n j = answerText n (replyIn j)
 
--- The code's replies, each with its zero byte: a number, or a part of the words.
+-- The code's replies, each with its zero byte: where a word starts and ends, or after no word a number.
 abbrev pub saidOf : Reply → Said
-saidOf A.Silent = S.Word 0 0
-saidOf A.Reject = S.Word 0 7
-saidOf A.NotUnderstood = S.Word 7 21
-saidOf A.Yes = S.Word 21 25
-saidOf A.No = S.Word 25 28
-saidOf A.None = S.Word 28 33
-saidOf A.Rfc3720 = S.Word 33 41
-saidOf (A.Number n) = S.Number n
+saidOf A.Silent = (0, 0, 0)
+saidOf A.Reject = (0, 7, 0)
+saidOf A.NotUnderstood = (7, 21, 0)
+saidOf A.Yes = (21, 25, 0)
+saidOf A.No = (25, 28, 0)
+saidOf A.None = (28, 33, 0)
+saidOf A.Rfc3720 = (33, 41, 0)
+saidOf (A.Number n) = (41, 41, n)
 
 abbrev pub words : List ℕ
 words = bytes "Reject\0NotUnderstood\0Yes\0No\0None\0RFC3720\0"
 
-abbrev pub saidBytes : Said → List ℕ
-saidBytes (S.Number n) = decimal 10 n ++ (0 ∷ [])
-saidBytes (S.Word a e) = take (e - a) (drop a words)
+abbrev pub saidBytes : ℕ → ℕ → ℕ → List ℕ
+saidBytes a e n = pick (ltb a e) (take (e - a) (drop a words)) (decimal 10 n ++ (0 ∷ []))
+
+-- a part of the words, and short
+pub record WordIn (a e : ℕ) : Type 0 where
+  pub ends : e ≤ 41
+  pub short : e - a ≤ 14

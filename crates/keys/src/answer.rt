@@ -7,70 +7,48 @@ ghost use mathlib.Core.Path.{_≡_};
 ghost use Prim.Native.Nat.{_+_, _≤_};
 ghost use lib.ListN.{length};
 ghost use Rattle.text.specs.Text.{Appended};
-ghost use Rattle.keys.specs.Answer.{isSilent, saidOf, saidBytes, replyIn, answerFrom};
+ghost use Rattle.keys.specs.Answer.{saidOf, saidBytes, WordIn, replyIn, answerFrom};
 
-fn is_silent(r: Reply) -> bool
-    ensures { λ b. ⌜ b ≡ isSilent r ⌝ }
-{
-    match r {
-        Reply::Silent => true,
-        Reply::Reject => false,
-        Reply::NotUnderstood => false,
-        Reply::Yes => false,
-        Reply::No => false,
-        Reply::None => false,
-        Reply::Rfc3720 => false,
-        Reply::Number(_) => false,
-    }
-}
-
-// A reply with its zero byte: a number in decimal, or the bytes of a word among `words`.
-pub enum Said {
-    Number(u32),
-    Word(usize, usize),
-}
+// A reply with its zero byte: a word, by where it starts and ends among the words, or after no word a number in decimal. No answer ends at 0.
+pub struct Said(usize, usize, u32);
 
 fn said_of(r: Reply) -> Said
     ensures { λ s. ⌜ s ≡ saidOf r ⌝ }
 {
     match r {
-        Reply::Silent => Said::Word(0, 0),
-        Reply::Reject => Said::Word(0, 7),
-        Reply::NotUnderstood => Said::Word(7, 21),
-        Reply::Yes => Said::Word(21, 25),
-        Reply::No => Said::Word(25, 28),
-        Reply::None => Said::Word(28, 33),
-        Reply::Rfc3720 => Said::Word(33, 41),
-        Reply::Number(n) => Said::Number(n),
-    }
-}
-
-fn put_reply(out: &mut [u8], at: usize, r: Reply) -> usize
-    requires { ⌜ at + 14 ≤ length (now out) ⌝ }
-    ensures { λ n. ⌜ Appended (now (out .entry)) at (saidBytes (saidOf r)) (now (out .exit)) n ⌝ }
-{
-    let s = said_of(r);
-    match s {
-        Said::Number(n) => {
-            let d = put_decimal(out, at, n);
-            append(out, d, b"\0")
-        }
-        Said::Word(a, e) => {
-            let words: &[u8] = b"Reject\0NotUnderstood\0Yes\0No\0None\0RFC3720\0";
-            append(out, at, &words[a..e])
-        }
+        Reply::Silent => Said(0, 0, 0),
+        Reply::Reject => Said(0, 7, 0),
+        Reply::NotUnderstood => Said(7, 21, 0),
+        Reply::Yes => Said(21, 25, 0),
+        Reply::No => Said(25, 28, 0),
+        Reply::None => Said(28, 33, 0),
+        Reply::Rfc3720 => Said(33, 41, 0),
+        Reply::Number(n) => Said(41, 41, n),
     }
 }
 
 // What a judged pair is answered: nothing where it is refused.
-fn reply_in(j: Judgement) -> Reply
-    ensures { λ r. ⌜ r ≡ replyIn j ⌝ }
+fn said_in(j: Judgement) -> Said
+    ensures { λ s. ⌜ s ≡ saidOf (replyIn j) ⌝ }
 {
     match j {
-        Judgement::Refused(_) => Reply::Silent,
-        Judgement::Said(r) => r,
-        Judgement::Settles(_, r) => r,
+        Judgement::Refused(_) => Said(0, 0, 0),
+        Judgement::Said(r) => said_of(r),
+        Judgement::Settles(_, r) => said_of(r),
     }
+}
+
+fn put_reply(out: &mut [u8], at: usize, from: usize, to: usize, n: u32) -> usize
+    requires { ⌜ (at + 14 ≤ length (now out)) × WordIn from to ⌝ }
+    ensures { λ r. ⌜ Appended (now (out .entry)) at (saidBytes from to n) (now (out .exit)) r ⌝ }
+{
+    if from < to {
+        let words: &[u8] = b"Reject\0NotUnderstood\0Yes\0No\0None\0RFC3720\0";
+        return append(out, at, &words[from..to]);
+    }
+    let d = put_decimal(out, at, n);
+    out[d] = 0;
+    d + 1
 }
 
 // What a judged pair adds to the answer: the name and =, which are given, the reply and a zero byte; nothing for a good declaration.
@@ -78,10 +56,11 @@ pub fn put_said(out: &mut [u8], at: usize, start: &[u8], j: Judgement) -> usize
     requires { ⌜ (length (now start) ≤ 64) × (at + 78 ≤ length (now out)) ⌝ }
     ensures { λ n. ⌜ Appended (now (out .entry)) at (answerFrom (now (start .entry)) (replyIn j)) (now (out .exit)) n ⌝ }
 {
-    let r = reply_in(j);
-    if is_silent(r) {
+    let s = said_in(j);
+    let to = s.1;
+    if to == 0 {
         return at;
     }
     let a = append(out, at, start);
-    put_reply(out, a, r)
+    put_reply(out, a, s.0, to, s.2)
 }

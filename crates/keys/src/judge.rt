@@ -88,11 +88,12 @@ fn auth_method(v: &[u8]) -> Judgement
     }
 }
 
-// The value of key k, which is of this kind.
-fn judge_value(kind: Kind, k: usize, ours: &[u8], v: &[u8]) -> Judgement
-    requires { ⌜ (kind ≡ kindAt k) × (k < 28) ⌝ }
-    ensures { λ r. ⌜ r ≡ judgeBy kind k (now (ours .entry)) (now (v .entry)) ⌝ }
+// The value of key k.
+fn judge_value(k: usize, ours: &[u8], v: &[u8]) -> Judgement
+    requires { ⌜ k < 28 ⌝ }
+    ensures { λ r. ⌜ r ≡ judgeBy (kindAt k) k (now (ours .entry)) (now (v .entry)) ⌝ }
 {
+    let kind = kind_of(k);
     match kind {
         Kind::Negotiated => settle(k, v),
         Kind::Declared => settle(k, v),
@@ -108,40 +109,20 @@ fn judge_value(kind: Kind, k: usize, ours: &[u8], v: &[u8]) -> Judgement
     }
 }
 
-fn may_stand(kind: Kind, stage: u8) -> bool
-    ensures { λ r. ⌜ r ≡ stands kind stage ⌝ }
+// Keys below 15 stand in the operational stage, AuthMethod (15) in the security stage, the others in either.
+fn may_stand(k: usize, stage: u8) -> bool
+    requires { ⌜ k < 28 ⌝ }
+    ensures { λ r. ⌜ r ≡ stands (kindAt k) stage ⌝ }
 {
-    match kind {
-        Kind::Negotiated => stage == 1,
-        Kind::Declared => stage == 1,
-        Kind::Digest => stage == 1,
-        Kind::TaskReporting => stage == 1,
-        Kind::AuthMethod => stage == 0,
-        Kind::InitiatorName => true,
-        Kind::TargetName => true,
-        Kind::SessionType => true,
-        Kind::InitiatorAlias => true,
-        Kind::Marker => true,
-        Kind::Refused => true,
-    }
+    ((k != 15) | (stage == 0)) & ((15 <= k) | (stage == 1))
 }
 
-fn only_leading(kind: Kind) -> bool
-    ensures { λ r. ⌜ r ≡ leadingOnly kind ⌝ }
+// The table's keys but MaxRecvDataSegmentLength (6), and TaskReporting (14).
+fn only_leading(k: usize) -> bool
+    requires { ⌜ k < 28 ⌝ }
+    ensures { λ r. ⌜ r ≡ leadingOnly (kindAt k) ⌝ }
 {
-    match kind {
-        Kind::Negotiated => true,
-        Kind::Declared => false,
-        Kind::Digest => false,
-        Kind::TaskReporting => true,
-        Kind::AuthMethod => false,
-        Kind::InitiatorName => false,
-        Kind::TargetName => false,
-        Kind::SessionType => false,
-        Kind::InitiatorAlias => false,
-        Kind::Marker => false,
-        Kind::Refused => false,
-    }
+    ((k < 12) & (k != 6)) | (k == 14)
 }
 
 // A known key, seen before in this login or not.
@@ -149,17 +130,10 @@ fn judge_key(seen: bool, stage: u8, leading: bool, ours: &[u8], k: usize, v: &[u
     requires { ⌜ k < 28 ⌝ }
     ensures { λ r. ⌜ r ≡ judgeKey seen stage leading (now (ours .entry)) k (now (v .entry)) ⌝ }
 {
-    let kind = kind_of(k);
-    if !may_stand(kind, stage) {
+    if !may_stand(k, stage) | (only_leading(k) & !leading) | seen {
         return Judgement::Refused(0x0200);
     }
-    if only_leading(kind) & !leading {
-        return Judgement::Refused(0x0200);
-    }
-    if seen {
-        return Judgement::Refused(0x0200);
-    }
-    judge_value(kind, k, ours, v)
+    judge_value(k, ours, v)
 }
 
 // A pair whose name is key k's, KNOWN for a name that is not known, after these keys came.
@@ -189,6 +163,15 @@ fn mark(seen: &mut [bool; 28], k: usize)
     seen[k] = true;
 }
 
+// Key k has this value, if it is a key of the table.
+fn put(values: &mut [u32], k: usize, n: u32)
+    ensures { λ _. ⌜ now (values .exit) ≡ set (now (values .entry)) k n ⌝ }
+{
+    if k < values.len() {
+        values[k] = n;
+    }
+}
+
 // What a judged pair leaves, unless it is refused: its key came, and its value is in force. In place, for it is done for each pair.
 pub fn settle_pair(seen: &mut [bool; 28], values: &mut [u32], k: usize, j: Judgement)
     requires { ⌜ k ≤ 28 ⌝ }
@@ -204,9 +187,7 @@ pub fn settle_pair(seen: &mut [bool; 28], values: &mut [u32], k: usize, j: Judge
         }
         Judgement::Settles(n, _) => {
             mark(seen, k);
-            if k < values.len() {
-                values[k] = n;
-            }
+            put(values, k, n);
         }
     }
 }

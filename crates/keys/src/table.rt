@@ -46,20 +46,20 @@ pub struct Row {
 pub const KNOWN: usize = 28;
 
 // The table of twelve keys, in the order of their names; its standard values and ours are those of Parameters.
-const RULES: [Rule; 12] = [
-    Rule::Least,
-    Rule::Least,
-    Rule::Or,
-    Rule::Or,
-    Rule::Or,
-    Rule::And,
-    Rule::Declared,
-    Rule::Least,
-    Rule::Least,
-    Rule::Greatest,
-    Rule::Least,
-    Rule::Least,
-];
+fn rule_of(k: usize) -> Rule
+    requires { ⌜ k < 12 ⌝ }
+    ensures { λ r. ⌜ r ≡ rowAt k .rule ⌝ }
+{
+    match k {
+        2 => Rule::Or,
+        3 => Rule::Or,
+        4 => Rule::Or,
+        5 => Rule::And,
+        6 => Rule::Declared,
+        9 => Rule::Greatest,
+        _ => Rule::Least,
+    }
+}
 
 const LOWS: [u32; 12] = [1, 1, 0, 0, 0, 0, 512, 512, 512, 0, 0, 0];
 
@@ -82,7 +82,7 @@ pub fn row_of(k: usize) -> Row
     requires { ⌜ k < 12 ⌝ }
     ensures { λ r. ⌜ r ≡ rowAt k ⌝ }
 {
-    let rule = RULES[k];
+    let rule = rule_of(k);
     Row {
         rule,
         low: LOWS[k],
@@ -115,13 +115,14 @@ pub fn kind_of(k: usize) -> Kind
 fn candidate(name: &[u8]) -> usize
     ensures { λ r. ⌜ (keyOf (now (name .entry)) < 28 → r ≡ keyOf (now (name .entry))) × (r ≤ 28) ⌝ }
 {
-    if name.len() < 4 {
+    let n = name.len();
+    if n < 4 {
         return KNOWN;
     }
-    if 24 < name.len() {
+    if 24 < n {
         return KNOWN;
     }
-    let place = (name.len() * 4 + name[0] as usize * 3 + name[3] as usize) % 64;
+    let place = (n * 4 + name[0] as usize * 3 + name[3] as usize) % 64;
     let keys =
         b"\x1c\x1c\x1c\x10\x1c\x08\x0b\x13\x1c\x1b\x1c\x11\x1c\x1c\x1c\x18\x1c\x1c\x1c\x0f\x1c\x0d\x1c\x19\x12\x06\x1c\x0e\x14\x1c\x1c\x1c\x16\x07\x00\x1c\x1c\x03\x1c\x1c\x1c\x1c\x1c\x1c\x0c\x09\x15\x1c\x1c\x1c\x17\x1a\x05\x0a\x1c\x02\x1c\x04\x01\x1c\x1c\x1c\x1c\x1c";
     keys[place] as usize

@@ -1,5 +1,4 @@
 // The value of a key of the table: the offer within its range, and what it settles with ours.
-use crate::table::Row;
 use crate::table::Rule;
 use crate::table::row_of;
 use text::number::Number;
@@ -7,8 +6,10 @@ use text::number::number_of;
 use text::slice::same_bytes;
 ghost use mathlib.Core.Path.{_≡_};
 ghost use Prim.Native.Nat.{_<_};
+ghost use Rattle.text.specs.Text.{pick};
+ghost use Rattle.text.specs.Number.{numberOf};
 ghost use Rattle.keys.specs.Table.{rowAt};
-ghost use Rattle.keys.specs.Settle.{isBool, boolOf, ranged, offered, settledBy, yesNo, replyFor, settling};
+ghost use Rattle.keys.specs.Settle.{isBool, boolOf, ranged, settledBy, yesNo, replyFor, settling};
 
 // What a pair is answered.
 pub enum Reply {
@@ -39,16 +40,12 @@ pub enum Offer {
     Bad,
 }
 
-fn is_bool(rule: Rule) -> bool
-    ensures { λ r. ⌜ r ≡ isBool rule ⌝ }
+// Four keys of the table have boolean values.
+fn is_bool(k: usize) -> bool
+    requires { ⌜ k < 12 ⌝ }
+    ensures { λ r. ⌜ r ≡ isBool (rowAt k .rule) ⌝ }
 {
-    match rule {
-        Rule::Least => false,
-        Rule::Greatest => false,
-        Rule::Or => true,
-        Rule::And => true,
-        Rule::Declared => false,
-    }
+    (2 <= k) & (k <= 5)
 }
 
 // Yes is 1 and No is 0.
@@ -81,16 +78,14 @@ fn in_range(n: Number, low: u32, high: u32) -> Offer
     }
 }
 
-// The offer, good where it has the right form and lies in the range.
-fn offered_in(row: Row, v: &[u8]) -> Offer
-    ensures { λ r. ⌜ r ≡ offered row (now (v .entry)) ⌝ }
+// The offer, good where it has the right form, a boolean's or a number's, and lies in the range.
+fn offered_in(boolean: bool, low: u32, high: u32, v: &[u8]) -> Offer
+    ensures { λ r. ⌜ r ≡ ranged low high (pick boolean (boolOf (now (v .entry))) (numberOf (now (v .entry)))) ⌝ }
 {
-    let rule = row.rule;
-    if is_bool(rule) {
-        in_range(bool_of(v), row.low, row.high)
-    } else {
-        in_range(number_of(v), row.low, row.high)
+    if boolean {
+        return in_range(bool_of(v), low, high);
     }
+    in_range(number_of(v), low, high)
 }
 
 // The value that an offer a and our own b settle.
@@ -100,8 +95,8 @@ fn settle_by(rule: Rule, a: u32, b: u32) -> u32
     match rule {
         Rule::Least => if a < b { a } else { b },
         Rule::Greatest => if a < b { b } else { a },
-        Rule::Or => if (a == 1) | (b == 1) { 1 } else { 0 },
-        Rule::And => if (a == 1) & (b == 1) { 1 } else { 0 },
+        Rule::Or => ((a == 1) | (b == 1)) as u32,
+        Rule::And => ((a == 1) & (b == 1)) as u32,
         Rule::Declared => a,
     }
 }
@@ -131,7 +126,7 @@ pub fn settle(k: usize, v: &[u8]) -> Judgement
     ensures { λ r. ⌜ r ≡ settling (rowAt k) (now (v .entry)) ⌝ }
 {
     let row = row_of(k);
-    let n = offered_in(row, v);
+    let n = offered_in(is_bool(k), row.low, row.high, v);
     match n {
         Offer::Bad => Judgement::Said(Reply::Reject),
         Offer::Good(x) => {

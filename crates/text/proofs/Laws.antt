@@ -8,7 +8,7 @@ use native.Mathlib.Omega.{arith}
 use native.Mathlib.Nat.{not-suc-le-zero, le-of-suc-le-suc, mul-le-mul-left, div-lt-iff-lt-mul, le-div-iff-mul-le, add-assoc, zero-add}
 use borrow.Author.Tests.{eq-eqb, ne-eqb, eqb-true, eqb-false, lt-ltb, le-ltb, le-leb, leb-true, ltb-true}
 use lib.ListN.{length, getD, take, drop, set, drop-of-length-le, length-drop, length-set, length-append, take-append-drop}
-use lib.Seq.{drop-cons, drop-drop, take-all, getD-set-same, drop-set-lt}
+use lib.Seq.{drop-cons, drop-drop, take-all, getD-set-same, drop-set-lt, take-suc-set}
 use lib.Dec.{eqb, ltb, leb, leb·suc-suc}
 use Rattle.text.specs.Text.{pick, before, after, has, same, all, items, onto, listed, Appended}
 use Rattle.text.specs.Block.{within, nameIn, valueIn, restOf, wholeFirst, goodFirst, goodName, formed, empty}
@@ -299,6 +299,10 @@ onto-none (x ∷ a) = ap (λ (r : List ℕ). x ∷ r) (onto-none a)
 -- Nothing was put.
 pub appended-none : (o : List ℕ) (at : ℕ) → Appended o at [] o at
 appended-none o at = record { count = omega arith; text = sym (onto-none (take at o)); rest = refl }
+
+-- One byte was put.
+pub appended-one : (o : List ℕ) (at x : ℕ) → at < length o → Appended o at (x ∷ []) (set o at x) (at + 1)
+appended-one o at x h = record { count = refl; text = rw add-one (take-suc-set o at x h); rest = drop-set-lt (at + 1) o at x (omega arith) }
 
 -- Two things put after each other.
 pub appended-then : {o a p b q : List ℕ} {at m n : ℕ} → Appended o at a p m → Appended p m b q n → Appended o at (a ++ b) q n

@@ -38,18 +38,20 @@ fn tail_good(s: &[u8]) -> bool
 pub fn name_good(s: &[u8]) -> bool
     ensures { λ r. ⌜ r ≡ goodName (now (s .entry)) ⌝ }
 {
-    if s.len() < 1 {
+    let n = s.len();
+    if n < 1 {
         return false;
     }
-    if 63 < s.len() {
+    if 63 < n {
         return false;
     }
     let a = s[0];
-    if s.len() == 1 {
-        return (a >= 65) & (a <= 90);
+    let upper = (a >= 65) & (a <= 90);
+    if n == 1 {
+        return upper;
     }
     let b = s[1];
-    ((a >= 65) & (a <= 90)) & (is_name_byte(b) | ((a == 88) & (b == 35))) & tail_good(s)
+    upper & (is_name_byte(b) | ((a == 88) & (b == 35))) & tail_good(s)
 }
 
 // The first pair of a text: its name ends before eq, its value before end; ok if its form is good.

@@ -1,47 +1,35 @@
-use Rattle.text.specs.Number.{decimal}
-use Rattle.text.proofs.Laws.{appended-then, decimal-length}
-use Rattle.keys.specs.Answer.{words}
-use Rattle.keys.proofs.Said.{word-in}
-use lib.Seq.{length-take-le}
-use lib.ListN.{length, take, drop, length-drop}
-use mathlib.Core.Path.{_≡_, sym, _∙_}
-use Prim.Native.Nat.{_≤_, _-_}
+-- A word is put whole; a number by its digits and a zero byte.
+use Rattle.text.proofs.Laws.{appended-then, appended-one, decimal-length}
+use borrow.Author.Tests.{lt-ltb, le-ltb}
+use lib.ListN.{length-set}
+use mathlib.Core.Path.{_∙_}
 use native.Mathlib.Omega.{arith}
 use borrow.Author.Needs.{needs}
 use Rattle.keys.proofs.answer.put_reply.Statement.{statement}
 use Rattle.keys.proofs.answer.put_reply.Tie as tie
 
-append-requires : tie.Need-append-requires
-append-requires c κs =
-    let n : length (decimal 10 (c .before .before .before .before .before .before .before .s .given .0 .0)) ≤ 10 = decimal-length 10 (c .before .before .before .before .before .before .before .s .given .0 .0) in
-    omega (arith, n, c .before .before .before .before .put-decimal .ensures .count, c .before .before .before .before .put-decimal .kept, c .before .before .before .before .before .before .before .before .before .before .before .pre)
-
-sub-append : tie.Need-sub-append
-sub-append c = omega (arith, word-in (c .before .before .before .before .before .before .before .args .r) _ _ (sym (c .before .before .before .before .before .said-of .ensures) ∙ c .before .before .before .s2 .given .1))
-
-part-append-start : tie.Need-part-append-start
-part-append-start c = omega (arith, word-in (c .before .before .before .before .before .before .before .args .r) _ _ (sym (c .before .before .before .before .before .said-of .ensures) ∙ c .before .before .before .s2 .given .1))
-
-part-append-end : tie.Need-part-append-end
-part-append-end c = omega (arith, word-in (c .before .before .before .before .before .before .before .args .r) _ _ (sym (c .before .before .before .before .before .said-of .ensures) ∙ c .before .before .before .s2 .given .1))
-
-append-requires-2 : tie.Need-append-requires-2
-append-requires-2 c κs =
-    let a = c .before .before .before .before .s2 .given .0 .0 in
-    let e = c .before .before .before .before .s2 .given .0 .1 .0 in
-    let w = word-in (c .before .before .before .before .before .before .before .before .args .r) _ _ (sym (c .before .before .before .before .before .before .said-of .ensures) ∙ c .before .before .before .before .s2 .given .1) in
-    let n : length (take (e - a) (drop a words)) ≡ e - a = length-take-le _ _ (rw length-drop (omega (arith, w))) in
-    omega (arith, n, w, c .before .before .before .before .before .before .before .before .pre)
-
 returns : tie.Need-returns
-returns c = rw (← (c .before .before .before .before .before .before .before .before .before .before .before .before .said-of .ensures), c .before .before .before .before .before .before .before .before .before .before .s .given .1) (appended-then (c .before .before .before .before .before .before .before .put-decimal .ensures) (c .before .before .append .ensures))
+returns c = rw (lt-ltb _ _ (c .before .before .before .before .before .before .if1 .taken)) (c .before .before .append .ensures)
+
+slice-write-out : tie.Need-slice-write-out
+slice-write-out c =
+    let p = c .before .before .put-decimal in
+    let g = c .before .before .before .before .before .before in
+    omega (arith, p .ensures .count, p .kept, decimal-length 10 (g .args .n), g .pre)
+
+add-result : tie.Need-add-result
+add-result c = omega (arith, slice-write-out c)
+
+same-length-2 : tie.Need-same-length-2
+same-length-2 c = simp length-set (c .before .before .put-decimal .kept .0)
 
 returns-2 : tie.Need-returns-2
-returns-2 c = rw (← (c .before .before .before .before .before .before .before .before .before .said-of .ensures), c .before .before .before .before .before .before .before .s2 .given .1) (c .before .before .append2 .ensures)
+returns-2 c =
+    let p = c .before .before .put-decimal in
+    rw (le-ltb _ _ (c .before .before .before .before .if1 .left)) (appended-then (p .ensures) (appended-one _ (p .result) 0 (slice-write-out c)))
 
 pub put-reply-spec : {M : Type 1} → statement M
 put-reply-spec =
     tie.close (tie.spec
-    (λ c κs. search needs) (λ c. search needs) (λ c κs. search needs) (λ c. search needs) append-requires
-    (λ c. search needs) (λ c. search needs) sub-append part-append-start part-append-end append-requires-2
-    (λ c. search needs) returns (λ c. search needs) returns-2)
+    (λ c. omega arith) (λ c. omega arith) (λ c. omega arith) (λ c. omega arith) (λ c κs. search needs) (λ c. c .before .before .append .kept .0) returns
+    (λ c κs. omega arith) slice-write-out add-result same-length-2 returns-2)

@@ -1,6 +1,6 @@
+use native.Mathlib.Omega.{arith}
 use Rattle.keys.specs.Judge.{authMethod}
 use Prim.Native.Nat.{_-_}
-use borrow.Author.Needs.{needs}
 use Rattle.keys.proofs.judge.auth_method.Statement.{statement}
 use Rattle.keys.proofs.judge.auth_method.Tie as tie
 
@@ -14,4 +14,4 @@ returns-2 c = rw (← (c .before .lists .ensures), c .if1 .left)
 
 pub auth-method-spec : {M : Type 1} → statement M
 auth-method-spec = tie.close (tie.spec
-    (λ c. search needs) (λ c κs. search needs) returns returns-2)
+    (λ c. omega arith) (λ c κs. tt) returns returns-2)

@@ -1,6 +1,5 @@
 use Rattle.keys.specs.Judge.{initiatorName}
 use Prim.Native.Nat.{_-_}
-use borrow.Author.Needs.{needs}
 use Rattle.keys.proofs.judge.initiator_name.Statement.{statement}
 use Rattle.keys.proofs.judge.initiator_name.Tie as tie
 
@@ -14,4 +13,4 @@ returns-2 c = rw (← (c .before .length-good .ensures), c .if1 .left)
 
 pub initiator-name-spec : {M : Type 1} → statement M
 initiator-name-spec = tie.close (tie.spec
-    (λ c κs. search needs) returns returns-2)
+    (λ c κs. tt) returns returns-2)

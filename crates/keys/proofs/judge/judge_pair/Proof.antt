@@ -1,7 +1,7 @@
+use native.Mathlib.Omega.{arith}
 use Rattle.keys.specs.Judge.{judgeAt}
 use Prim.Native.Nat.{_-_}
 use borrow.Author.Tests.{eq-eqb, ne-eqb}
-use borrow.Author.Needs.{needs}
 use Rattle.keys.proofs.judge.judge_pair.Statement.{statement}
 use Rattle.keys.proofs.judge.judge_pair.Tie as tie
 
@@ -15,4 +15,4 @@ returns-2 c = rw (ne-eqb _ _ (c .before .before .if1 .left)) (c .judge-key .ensu
 
 pub judge-pair-spec : {M : Type 1} → statement M
 judge-pair-spec = tie.close (tie.spec
-    returns (λ c. search needs) (λ c κs. search needs) returns-2)
+    returns (λ c. omega arith) (λ c κs. omega arith) returns-2)

@@ -1,27 +1,11 @@
-use Prim.Native.Nat.{_-_}
-use borrow.Author.Needs.{needs}
+-- One test over the keys says where each may stand.
+use Rattle.keys.proofs.Standing.{stands-at}
 use Rattle.keys.proofs.judge.may_stand.Statement.{statement}
 use Rattle.keys.proofs.judge.may_stand.Tie as tie
 
 returns : tie.Need-returns
-returns c = rw (c .enum-told .given .1)
-
-returns-2 : tie.Need-returns-2
-returns-2 c = rw (c .enum-told2 .given .1)
-
-returns-3 : tie.Need-returns-3
-returns-3 c = rw (c .enum-told3 .given .1)
-
-returns-4 : tie.Need-returns-4
-returns-4 c = rw (c .enum-told4 .given .1)
-
-returns-5 : tie.Need-returns-5
-returns-5 c = rw (c .enum-told5 .given .1)
+returns c = stands-at (c .args .k) (c .pre) (c .args .stage)
 
 pub may-stand-spec : {M : Type 1} → statement M
-may-stand-spec =
-    tie.close (tie.spec
-    (λ c. search needs) (λ c. search needs) (λ c. search needs) (λ c. search needs) (λ c. search needs)
-    (λ c. search needs) (λ c. search needs) (λ c. search needs) (λ c. search needs) (λ c. search needs)
-    (λ c. search needs) returns returns-2 returns-3 returns-4 returns-5 (λ c. search needs) (λ c. search needs)
-    (λ c. search needs) (λ c. search needs) (λ c. search needs) (λ c. search needs))
+may-stand-spec = tie.close (tie.spec
+    returns)

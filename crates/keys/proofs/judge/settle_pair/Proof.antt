@@ -1,9 +1,7 @@
+-- The definition goes by the same cases: an unknown key, then each judgement.
+use native.Mathlib.Omega.{arith}
 use Rattle.keys.specs.Judge.{after}
-use lib.Seq.{set-out}
-use Prim.Native.Nat.{_-_}
 use borrow.Author.Tests.{eq-eqb, ne-eqb}
-use borrow.Author.Needs.{needs}
-use denote.Ref.{now}
 use Rattle.keys.proofs.judge.settle_pair.Statement.{statement}
 use Rattle.keys.proofs.judge.settle_pair.Tie as tie
 
@@ -21,14 +19,12 @@ returns-3 c = rw (ne-eqb _ _ (c .before .before .before .before .if1 .left), c .
 
 returns-4 : tie.Need-returns-4
 unfolding after
-returns-4 c = rw (ne-eqb _ _ (c .before .before .before .before .before .before .if1 .left), c .before .before .before .before .j .given .1, c .before .mark2 .ensures)
-
-returns-5 : tie.Need-returns-5
-unfolding after
-returns-5 c = rw (ne-eqb _ _ (c .before .before .before .before .before .before .if1 .left), c .before .before .before .before .j .given .1, c .before .mark2 .ensures, set-out (now (c .before .before .before .before .before .before .before .before .args .values)) _ _ (c .if2 .left))
+returns-4 c =
+    let m = c .before .before .before .before in
+    rw (ne-eqb _ _ (m .before .before .before .before .before .if1 .left), m .before .before .before .j .given .1, m .mark2 .ensures, c .before .before .put .ensures)
 
 pub settle-pair-spec : {M : Type 1} → statement M
 settle-pair-spec =
     tie.close (tie.spec
-    returns (λ c. search needs) (λ c. search needs) (λ c κs. search needs) (λ c. search needs) (λ c κs. search needs)
-    (λ c. search needs) (λ c. search needs) returns-2 returns-3 (λ c. search needs) returns-4 returns-5)
+    returns (λ c. c .match .keys1) (λ c. c .match .keys2) (λ c κs. omega arith) (λ c. c .match .keys3) (λ c κs. omega arith)
+    (λ c κs. tt) returns-2 returns-3 (λ c. c .before .before .put .kept .0) returns-4)

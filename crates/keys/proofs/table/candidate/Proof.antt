@@ -4,7 +4,6 @@ use Prim.Native.Nat.{ℕ, _+_, _*_, _%_, _≤_}
 use mathlib.Core.List.{List}
 use lib.ListN.{length, getD}
 use native.Mathlib.Omega.{arith}
-use borrow.Author.Needs.{needs}
 use denote.Ref.{now}
 use Rattle.keys.proofs.table.candidate.Statement.{statement}
 use Rattle.keys.proofs.table.candidate.Tie as tie
@@ -42,5 +41,5 @@ returns-3 c = (λ p. known-place (now (c .before .before .before .before .before
 pub candidate-spec : {M : Type 1} → statement M
 candidate-spec =
     tie.close (tie.spec
-    returns returns-2 (λ c. search needs) (λ c. search needs) cast-place mul-place-2 add-place (λ c. search needs)
-    cast-place-2 add-place-2 (λ c. search needs) cast-result returns-3)
+    returns returns-2 (λ c. omega arith) (λ c. omega arith) cast-place mul-place-2 add-place (λ c. omega arith)
+    cast-place-2 add-place-2 (λ c. omega arith) cast-result returns-3)

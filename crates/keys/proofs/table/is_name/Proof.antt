@@ -5,7 +5,6 @@ use mathlib.Core.Path.{sym, ap, _∙_}
 use Prim.Native.Nat.{_-_}
 use native.Mathlib.Omega.{arith}
 use denote.Ref.{now}
-use borrow.Author.Needs.{needs}
 use Rattle.keys.proofs.table.is_name.Statement.{statement}
 use Rattle.keys.proofs.table.is_name.Tie as tie
 
@@ -27,5 +26,5 @@ returns-2 c = c .same-bytes .ensures ∙ ap (same (now (c .before .before .befor
 pub is-name-spec : {M : Type 1} → statement M
 is-name-spec =
     tie.close (tie.spec
-    (λ c. search needs) cast-n returns (λ c. search needs) (λ c. search needs) add-e (λ c. search needs)
-    (λ c. search needs) part-same-bytes-end (λ c κs. search needs) returns-2)
+    (λ c. omega arith) cast-n returns (λ c. omega arith) (λ c. omega arith) add-e (λ c. omega arith)
+    (λ c. omega arith) part-same-bytes-end (λ c κs. tt) returns-2)

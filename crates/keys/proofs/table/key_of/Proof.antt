@@ -8,7 +8,6 @@ use mathlib.Core.Bool.{true, false}
 use Prim.Native.Nat.{ℕ, _-_, _<_}
 use native.Mathlib.Omega.{arith}
 use denote.Ref.{now}
-use borrow.Author.Needs.{needs}
 use Rattle.keys.proofs.table.key_of.Statement.{statement}
 use Rattle.keys.proofs.table.key_of.Tie as tie
 
@@ -37,4 +36,4 @@ returns-3 c =
 pub key-of-spec : {M : Type 1} → statement M
 key-of-spec =
     tie.close (tie.spec
-    (λ c κs. search needs) returns is-name-requires returns-2 returns-3)
+    (λ c κs. tt) returns is-name-requires returns-2 returns-3)

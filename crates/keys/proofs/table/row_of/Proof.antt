@@ -1,16 +1,16 @@
+-- The columns of the code are the fields of the rows.
+use native.Mathlib.Omega.{arith}
 use Rattle.keys.specs.Table.{rows}
 use Rattle.keys.proofs.Tables.{columns}
-use Prim.Native.Nat.{_-_}
-use borrow.Author.Needs.{needs}
 use Rattle.keys.proofs.table.row_of.Statement.{statement}
 use Rattle.keys.proofs.table.row_of.Tie as tie
 
 returns : tie.Need-returns
 unfolding rows
-returns c = columns (c .before .args .k) (c .before .pre) _ _
+returns c = rw (c .rule-of .ensures) (columns (c .before .args .k) (c .before .pre) _)
 
 pub row-of-spec : {M : Type 1} → statement M
 row-of-spec =
     tie.close (tie.spec
-    (λ c. search needs) (λ c. search needs) (λ c. search needs) (λ c. search needs) (λ c. search needs)
-    (λ c. search needs) (λ c. search needs) (λ c. search needs) (λ c. search needs) returns)
+    (λ c κs. c .pre) (λ c. omega arith) (λ c. omega arith) (λ c. omega arith) (λ c. omega arith)
+    (λ c. omega arith) (λ c. omega arith) (λ c. omega arith) (λ c. omega arith) returns)

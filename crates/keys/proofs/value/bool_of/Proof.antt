@@ -1,6 +1,6 @@
+use native.Mathlib.Omega.{arith}
 use Rattle.keys.specs.Settle.{boolOf}
 use Prim.Native.Nat.{_-_}
-use borrow.Author.Needs.{needs}
 use Rattle.keys.proofs.value.bool_of.Statement.{statement}
 use Rattle.keys.proofs.value.bool_of.Tie as tie
 
@@ -19,4 +19,4 @@ returns-3 c = rw (← (c .before .before .before .before .same-bytes .ensures), 
 pub bool-of-spec : {M : Type 1} → statement M
 bool-of-spec =
     tie.close (tie.spec
-    (λ c. search needs) (λ c κs. search needs) returns (λ c. search needs) (λ c κs. search needs) returns-2 returns-3)
+    (λ c. omega arith) (λ c κs. tt) returns (λ c. omega arith) (λ c κs. tt) returns-2 returns-3)

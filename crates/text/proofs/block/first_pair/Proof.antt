@@ -3,7 +3,6 @@ use mathlib.Core.Path.{_≡_, sym, ap, _∙_}
 use mathlib.Core.Bool.{true, false}
 use Prim.Native.Nat.{_≤_, _-_}
 use native.Mathlib.Omega.{arith}
-use borrow.Author.Needs.{needs}
 use borrow.Author.Tests.{not-true, not-false}
 use denote.Ref.{now}
 use lib.Seq.{length-take-le}
@@ -38,4 +37,4 @@ returns-2 c =
 pub first-pair-spec : {M : Type 1} → statement M
 first-pair-spec =
     tie.close (tie.spec
-    (λ c κs. search needs) returns slice-aggregate-name-good (λ c κs. search needs) returns-2)
+    (λ c κs. tt) returns slice-aggregate-name-good (λ c κs. tt) returns-2)

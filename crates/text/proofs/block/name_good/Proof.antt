@@ -1,4 +1,3 @@
-use borrow.Author.Needs.{needs}
 use borrow.Author.Tests.{le-leb, lt-leb, ne-eqb}
 use Rattle.text.proofs.Laws.{drop-end, &&-true}
 use Rattle.text.specs.Block.{goodName}
@@ -32,5 +31,5 @@ returns-4 c = simp (le-leb _ _ (c .before .before .before .before .before .befor
 pub name-good-spec : {M : Type 1} → statement M
 name-good-spec =
     tie.close (tie.spec
-    returns returns-2 (λ c. search needs) returns-3 (λ c. search needs) (λ c κs. search needs) (λ c κs. search needs)
+    returns returns-2 (λ c. omega arith) returns-3 (λ c. omega arith) (λ c κs. tt) (λ c κs. tt)
     returns-4)

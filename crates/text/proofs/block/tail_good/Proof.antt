@@ -2,7 +2,6 @@
 use mathlib.Core.Path.{_≡_, refl, sym, _∙_}
 use Prim.Native.Nat.{_≤_, _-_}
 use native.Mathlib.Omega.{arith}
-use borrow.Author.Needs.{needs}
 use borrow.Author.Tests.{not-true, not-false}
 use lib.ListN.{length, drop}
 use Rattle.text.specs.Text.{all}
@@ -24,7 +23,7 @@ shared-slice-read-is-name-byte : tie.Need-shared-slice-read-is-name-byte Inv-loo
 shared-slice-read-is-name-byte c = omega arith
 
 is-name-byte-requires : tie.Need-is-name-byte-requires Inv-loop μ-loop
-is-name-byte-requires c κs = search needs
+is-name-byte-requires c κs = tt
 
 returns : tie.Need-returns Inv-loop μ-loop
 returns c =

@@ -3,7 +3,6 @@ use mathlib.Core.Path.{_≡_, refl, sym, _∙_}
 use mathlib.Core.Bool.{true, false}
 use Prim.Native.Nat.{suc, _≤_, _<_, _-_, _+_}
 use native.Mathlib.Omega.{arith}
-use borrow.Author.Needs.{needs}
 use borrow.Author.Tests.{not-true, not-false}
 use lib.ListN.{length, drop, length-drop}
 use denote.Ref.{now}
@@ -37,16 +36,16 @@ returns c =
     sym (formed-none (now (c .before .before .before .before .args .s)) (l .at) (omega arith)) ∙ rw e at (l .inv .2)
 
 sub-first-pair : tie.Need-sub-first-pair Inv-loop μ-loop
-sub-first-pair c = search needs
+sub-first-pair c = omega arith
 
 part-first-pair-start : tie.Need-part-first-pair-start Inv-loop μ-loop
-part-first-pair-start c = search needs
+part-first-pair-start c = omega arith
 
 part-first-pair-end : tie.Need-part-first-pair-end Inv-loop μ-loop
-part-first-pair-end c = search needs
+part-first-pair-end c = omega arith
 
 first-pair-requires : tie.Need-first-pair-requires Inv-loop μ-loop
-first-pair-requires c κs = search needs
+first-pair-requires c κs = tt
 
 returns-2 : tie.Need-returns-2 Inv-loop μ-loop
 returns-2 c =
@@ -62,7 +61,7 @@ add-at-2 : tie.Need-add-at-2 Inv-loop μ-loop
 add-at-2 c = omega (arith, inside c)
 
 add-n : tie.Need-add-n Inv-loop μ-loop
-add-n c = search needs
+add-n c = omega arith
 
 loop-less : tie.Need-loop-less Inv-loop μ-loop
 loop-less c = omega (arith, inside c)

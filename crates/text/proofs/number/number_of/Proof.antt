@@ -1,10 +1,18 @@
-use borrow.Author.Needs.{needs}
+use native.Mathlib.Omega.{arith}
 use borrow.Author.Tests.{le-leb, lt-leb, eq-eqb, ne-eqb}
 use Rattle.text.proofs.Laws.{rest-part}
 use Rattle.text.specs.Number.{numberOf}
 use mathlib.Core.Path.{_∙_}
+use Prim.Native.Nat.{_≤_}
 use Rattle.text.proofs.number.number_of.Statement.{statement}
 use Rattle.text.proofs.number.number_of.Tie as tie
+
+-- the two bases
+ten : (1 ≤ 10) × (10 ≤ 16)
+ten = (omega arith, omega arith)
+
+sixteen : (1 ≤ 16) × (16 ≤ 16)
+sixteen = (omega arith, omega arith)
 
 returns : tie.Need-returns
 unfolding numberOf
@@ -25,5 +33,5 @@ returns-4 c = let e = c .before .before in simp (le-leb _ _ (e .before .before .
 pub number-of-spec : {M : Type 1} → statement M
 number-of-spec =
     tie.close (tie.spec
-    (λ c κs. search needs) returns (λ c. search needs) (λ c κs. search needs) returns-2 (λ c. search needs)
-    (λ c. search needs) (λ c. search needs) (λ c. search needs) (λ c κs. search needs) returns-3 returns-4)
+    (λ c κs. ten) returns (λ c. omega arith) (λ c κs. ten) returns-2 (λ c. omega arith)
+    (λ c. omega arith) (λ c. omega arith) (λ c. omega arith) (λ c κs. sixteen) returns-3 returns-4)

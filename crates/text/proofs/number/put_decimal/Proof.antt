@@ -4,7 +4,6 @@ use mathlib.Core.List.{_++_, append-nil}
 use Prim.Native.Nat.{_≤_, _<_, _-_, _+_, _*_, _^_}
 use native.Mathlib.Omega.{arith}
 use native.Mathlib.Numerals.{add-one}
-use borrow.Author.Needs.{needs}
 use lib.ListN.{length, take, drop, set, length-set, length-drop}
 use native.Mathlib.Nat.{pow-suc}
 use lib.Seq.{take-all}
@@ -31,19 +30,19 @@ loop-holds : tie.Need-loop-holds Inv-loop μ-loop
 loop-holds c = (omega arith, omega arith, refl, append-nil _)
 
 cast-digits : tie.Need-cast-digits Inv-loop μ-loop
-cast-digits c = search needs
+cast-digits c = omega arith
 
 add-digits : tie.Need-add-digits Inv-loop μ-loop
-add-digits c = search needs
+add-digits c = omega arith
 
 array-write-digits : tie.Need-array-write-digits Inv-loop μ-loop
-array-write-digits c = search needs
+array-write-digits c = omega arith
 
 sub-i : tie.Need-sub-i Inv-loop μ-loop
 sub-i c = decimal-more (c .before .loop .rest) (c .before .loop .i) (c .loop-test .taken) (c .before .loop .inv .1)
 
 loop-less : tie.Need-loop-less Inv-loop μ-loop
-loop-less c = search needs
+loop-less c = omega arith
 
 loop-again : tie.Need-loop-again Inv-loop μ-loop
 loop-again c =
@@ -54,19 +53,19 @@ loop-again c =
     (omega arith, rw e (omega arith), simp length-set (l .inv .2), rw e (sym (decimal-step (l .digits) (l .i) (l .rest) (omega arith) (c .loop-test .taken)) ∙ l .inv .3))
 
 cast-digits-2 : tie.Need-cast-digits-2 Inv-loop μ-loop
-cast-digits-2 c = search needs
+cast-digits-2 c = omega arith
 
 add-digits-2 : tie.Need-add-digits-2 Inv-loop μ-loop
-add-digits-2 c = search needs
+add-digits-2 c = omega arith
 
 array-write-digits-2 : tie.Need-array-write-digits-2 Inv-loop μ-loop
-array-write-digits-2 c = search needs
+array-write-digits-2 c = omega arith
 
 sub-append : tie.Need-sub-append Inv-loop μ-loop
-sub-append c = search needs
+sub-append c = omega arith
 
 part-append-start : tie.Need-part-append-start Inv-loop μ-loop
-part-append-start c = search needs
+part-append-start c = omega arith
 
 part-append-end : tie.Need-part-append-end Inv-loop μ-loop
 part-append-end c = simp length-set (omega arith)

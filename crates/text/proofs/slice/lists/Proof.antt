@@ -3,7 +3,6 @@ use mathlib.Core.Path.{_≡_, refl, sym, ap, _∙_}
 use mathlib.Core.Bool.{true, false}
 use Prim.Native.Nat.{ℕ, _≤_, _<_, _-_, _+_}
 use native.Mathlib.Omega.{arith}
-use borrow.Author.Needs.{needs}
 use borrow.Author.Tests.{lt-ltb, le-ltb}
 use lib.ListN.{length, drop, length-drop}
 use denote.Ref.{now}
@@ -23,22 +22,22 @@ loop-holds : tie.Need-loop-holds Inv-loop μ-loop
 loop-holds c = (omega arith, refl)
 
 sub-rest : tie.Need-sub-rest Inv-loop μ-loop
-sub-rest c = search needs
+sub-rest c = omega arith
 
 part-rest-start : tie.Need-part-rest-start Inv-loop μ-loop
-part-rest-start c = search needs
+part-rest-start c = omega arith
 
 part-rest-end : tie.Need-part-rest-end Inv-loop μ-loop
-part-rest-end c = search needs
+part-rest-end c = omega arith
 
 find-requires : tie.Need-find-requires Inv-loop μ-loop
-find-requires c κs = search needs
+find-requires c κs = tt
 
 slice-aggregate-same-bytes : tie.Need-slice-aggregate-same-bytes Inv-loop μ-loop
 slice-aggregate-same-bytes c = sym (length-take-le _ _ (c .before .find .ensures .1))
 
 same-bytes-requires : tie.Need-same-bytes-requires Inv-loop μ-loop
-same-bytes-requires c κs = search needs
+same-bytes-requires c κs = tt
 
 returns : tie.Need-returns Inv-loop μ-loop
 returns c =
@@ -63,13 +62,13 @@ returns-2 c =
     sym (listed-last (now (g .w)) r e (has-before 44 r ∙ le-ltb _ _ m)) ∙ l .inv .1
 
 add-at : tie.Need-add-at Inv-loop μ-loop
-add-at c = search needs
+add-at c = omega arith
 
 add-at-2 : tie.Need-add-at-2 Inv-loop μ-loop
-add-at-2 c = search needs
+add-at-2 c = omega arith
 
 loop-less : tie.Need-loop-less Inv-loop μ-loop
-loop-less c = search needs
+loop-less c = omega arith
 
 loop-again : tie.Need-loop-again Inv-loop μ-loop
 loop-again c =

@@ -1,6 +1,5 @@
 use Rattle.keys.specs.Settle.{noneSeen}
 use Prim.Native.Nat.{_-_}
-use borrow.Author.Needs.{needs}
 use Rattle.keys.proofs.parameters.Settled.fresh.Statement.{statement}
 use Rattle.keys.proofs.parameters.Settled.fresh.Tie as tie
 
@@ -10,4 +9,4 @@ returns c = rw (← (c .standard .ensures))
 
 pub fresh-spec : {M : Type 1} → statement M
 fresh-spec = tie.close (tie.spec
-    (λ c κs. search needs) returns)
+    (λ c κs. tt) returns)
