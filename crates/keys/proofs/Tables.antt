@@ -173,9 +173,9 @@ column f [] k d e h = absurd (not-suc-le-zero h)
 column f (x ∷ l) zero d e h = refl
 column f (x ∷ l) (suc k) d e h = column f l k d e (le-of-suc-le-suc h)
 
-module _ (k : ℕ) (h : k < 12) (n : ℕ) where
+module _ (k : ℕ) (h : k < 12) (r : Rule) (n : ℕ) where
   pub columns : _≡_ {A = Row} (record {
-    rule = rowAt k .rule;
+    rule = getD (map (λ (q : Row). q .rule) rows) k r;
     low = getD (map (λ (q : Row). q .low) rows) k n;
     high = getD (map (λ (q : Row). q .high) rows) k n;
     standard = getD (map (λ (q : Row). q .standard) rows) k n;
@@ -184,7 +184,7 @@ module _ (k : ℕ) (h : k < 12) (n : ℕ) where
   unfolding rowAt rows
   columns =
       let e = row R.Declared 0 0 0 0 in
-      rw (column (λ (q : Row). q .low) rows k n e h, column (λ (q : Row). q .high) rows k n e h, column (λ (q : Row). q .standard) rows k n e h, column (λ (q : Row). q .ours) rows k n e h)
+      rw (column (λ (q : Row). q .rule) rows k r e h, column (λ (q : Row). q .low) rows k n e h, column (λ (q : Row). q .high) rows k n e h, column (λ (q : Row). q .standard) rows k n e h, column (λ (q : Row). q .ours) rows k n e h)
 
 -- What a key is: a test over a run of keys, past those that are skipped.
 unfoldable pub code : Kind → ℕ
@@ -273,36 +273,14 @@ agrees true b e = sym e
 agrees false true e = e
 agrees false false e = refl
 
--- The rule of a row, and whether its values are boolean, by its place.
-abbrev is-least : Rule → Bool
-is-least R.Least = true
-is-least R.Greatest = false
-is-least R.Or = false
-is-least R.And = false
-is-least R.Declared = false
+-- Whether a row's values are boolean, by its place.
+boolean : ℕ → Bool
+boolean k = agree (leb 2 k && leb k 5) (isBool (rowAt k .rule))
 
-least-only : (r : Rule) → is-least r ≡ true → r ≡ R.Least
-least-only R.Least e = refl
-least-only R.Greatest e = false-true e
-least-only R.Or e = false-true e
-least-only R.And e = false-true e
-least-only R.Declared e = false-true e
+all-boolean : below boolean 12 ≡ true
+unfolding boolean rowAt rows
+all-boolean = refl
 
-abbrev other : ℕ → Bool
-other k = (((((eqb k 2 || eqb k 3) || eqb k 4) || eqb k 5) || eqb k 6) || eqb k 9)
-
-ruled : ℕ → Bool
-ruled k = (other k || is-least (rowAt k .rule)) && agree (leb 2 k && leb k 5) (isBool (rowAt k .rule))
-
-all-ruled : below ruled 12 ≡ true
-unfolding ruled rowAt rows
-all-ruled = refl
-
-module _ (k : ℕ) (h : k < 12) where
-  pub rule-least : other k ≡ false → R.Least ≡ rowAt k .rule
-  unfolding ruled
-  rule-least n = sym (least-only _ (or-right (other k) _ n (&&-left _ _ (at ruled 12 all-ruled k h))))
-
-  pub bool-at : (leb 2 k && leb k 5) ≡ isBool (rowAt k .rule)
-  unfolding ruled
-  bool-at = agrees _ _ (&&-right (other k || is-least (rowAt k .rule)) _ (at ruled 12 all-ruled k h))
+pub bool-at : (k : ℕ) → k < 12 → (leb 2 k && leb k 5) ≡ isBool (rowAt k .rule)
+unfolding boolean
+bool-at k h = agrees _ _ (at boolean 12 all-boolean k h)

@@ -1,6 +1,9 @@
 // One pair of a block, judged: wrong stage, leading login only and twice come before its value.
+use crate::parameters::MAX_RECV_DATA_SEGMENT_LENGTH;
+use crate::table::AUTH_METHOD;
 use crate::table::KNOWN;
 use crate::table::Kind;
+use crate::table::TASK_REPORTING;
 use crate::table::kind_of;
 use crate::value::Judgement;
 use crate::value::Reply;
@@ -109,20 +112,20 @@ fn judge_value(k: usize, ours: &[u8], v: &[u8]) -> Judgement
     }
 }
 
-// Keys below 15 stand in the operational stage, AuthMethod (15) in the security stage, the others in either.
+// The keys before AuthMethod stand in the operational stage, AuthMethod in the security stage, the others in either.
 fn may_stand(k: usize, stage: u8) -> bool
     requires { ⌜ k < 28 ⌝ }
     ensures { λ r. ⌜ r ≡ stands (kindAt k) stage ⌝ }
 {
-    ((k != 15) | (stage == 0)) & ((15 <= k) | (stage == 1))
+    ((k != AUTH_METHOD) | (stage == 0)) & ((AUTH_METHOD <= k) | (stage == 1))
 }
 
-// The table's keys but MaxRecvDataSegmentLength (6), and TaskReporting (14).
+// The table's keys but MaxRecvDataSegmentLength, and TaskReporting.
 fn only_leading(k: usize) -> bool
     requires { ⌜ k < 28 ⌝ }
     ensures { λ r. ⌜ r ≡ leadingOnly (kindAt k) ⌝ }
 {
-    ((k < 12) & (k != 6)) | (k == 14)
+    ((k < 12) & (k != MAX_RECV_DATA_SEGMENT_LENGTH)) | (k == TASK_REPORTING)
 }
 
 // A known key, seen before in this login or not.

@@ -45,21 +45,26 @@ pub struct Row {
 
 pub const KNOWN: usize = 28;
 
+// Two places in the order of the names: the keys before AuthMethod are operational.
+pub const TASK_REPORTING: usize = 14;
+
+pub const AUTH_METHOD: usize = 15;
+
 // The table of twelve keys, in the order of their names; its standard values and ours are those of Parameters.
-fn rule_of(k: usize) -> Rule
-    requires { ⌜ k < 12 ⌝ }
-    ensures { λ r. ⌜ r ≡ rowAt k .rule ⌝ }
-{
-    match k {
-        2 => Rule::Or,
-        3 => Rule::Or,
-        4 => Rule::Or,
-        5 => Rule::And,
-        6 => Rule::Declared,
-        9 => Rule::Greatest,
-        _ => Rule::Least,
-    }
-}
+const RULES: [Rule; 12] = [
+    Rule::Least,
+    Rule::Least,
+    Rule::Or,
+    Rule::Or,
+    Rule::Or,
+    Rule::And,
+    Rule::Declared,
+    Rule::Least,
+    Rule::Least,
+    Rule::Greatest,
+    Rule::Least,
+    Rule::Least,
+];
 
 const LOWS: [u32; 12] = [1, 1, 0, 0, 0, 0, 512, 512, 512, 0, 0, 0];
 
@@ -82,7 +87,7 @@ pub fn row_of(k: usize) -> Row
     requires { ⌜ k < 12 ⌝ }
     ensures { λ r. ⌜ r ≡ rowAt k ⌝ }
 {
-    let rule = rule_of(k);
+    let rule = RULES[k];
     Row {
         rule,
         low: LOWS[k],

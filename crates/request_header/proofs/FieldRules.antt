@@ -1,4 +1,5 @@
--- The field rules kind by kind, and the refusals in numbers: what `readPdu` says in terms of `framed` and `fieldsOk`.
+-- The field rules kind by kind, and the refusals in numbers: what `readPdu` says by `framed`, `fieldsOk` and `refusalIn`. The layers above
+-- cite these laws and never open `readPdu`.
 use mathlib.Core.Path.{_≡_, refl, sym, ap, _∙_}
 use mathlib.Core.Bool.{Bool, true, false, not, _&&_, _||_}
 use mathlib.Core.List.{List}
@@ -10,7 +11,6 @@ use lib.ListN.{length}
 use Rattle.field.specs.Field.{beAt, byte, bit, pick, none}
 use Rattle.request_header.specs.declared.Limits.{Limits}
 use Rattle.request_header.specs.declared.Pdu.{Pdu}
-use Rattle.request_header.proofs.Reading.{got-long}
 use Rattle.request_header.specs.Request.{readPdu, judged, Answer, got, refused, known, opcodeOf, dataLengthOf, statedLength, sharedOk, ruleOk, snackOk, pduOf, requestOf, Says, framed, fieldsOk, refusalIn}
 
 pub and-true : (b : Bool) → (b && true) ≡ b
@@ -140,9 +140,6 @@ module _ (m : Limits) (s : List ℕ) where
   -- of a good PDU, and of a refusal's number
   pub read-good : {n : ℕ} → n ≡ refusalIn m s → n ≡ 0 → readPdu m s ≡ got (pduOf (opcodeOf s) s)
   read-good e f = rw (sym e ∙ f) at refusal-read
-
-  pub read-long : {n : ℕ} → n ≡ refusalIn m s → n ≡ 0 → 48 ≤ length s
-  read-long e f = got-long m s _ (read-good e f)
 
   pub read-by : {n : ℕ} → n ≡ refusalIn m s → (n ≡ 0 → ⊥) → readPdu m s ≡ refused n
   read-by e f = rw (← e, ne-eqb _ _ f) at refusal-read

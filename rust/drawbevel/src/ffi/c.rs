@@ -1,8 +1,8 @@
 //! The declarations, in the order and with the widths of `include/drawbevel.h`.
 
 use super::{
-    Answer, Headers, LoginNumbers, LoginWords, Maps, Numbers, ResponseWords, Seen,
-    StatusTickets, Statuses, Tickets, Values,
+    Answer, Headers, LoginNumbers, LoginWords, Maps, Numbers, ResponseWords, Seen, StatusTickets,
+    Statuses, Tickets, Values,
 };
 
 unsafe extern "C" {

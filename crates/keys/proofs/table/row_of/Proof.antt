@@ -7,10 +7,10 @@ use Rattle.keys.proofs.table.row_of.Tie as tie
 
 returns : tie.Need-returns
 unfolding rows
-returns c = rw (c .rule-of .ensures) (columns (c .before .args .k) (c .before .pre) _)
+returns c = columns (c .before .args .k) (c .before .pre) _ _
 
 pub row-of-spec : {M : Type 1} → statement M
 row-of-spec =
     tie.close (tie.spec
-    (λ c κs. c .pre) (λ c. omega arith) (λ c. omega arith) (λ c. omega arith) (λ c. omega arith)
+    (λ c. omega arith) (λ c. omega arith) (λ c. omega arith) (λ c. omega arith) (λ c. omega arith)
     (λ c. omega arith) (λ c. omega arith) (λ c. omega arith) (λ c. omega arith) returns)
