@@ -234,18 +234,19 @@ struct drawbevel_session {
 
 void drawbevel_core_fresh(uint32_t *numbers15, uint64_t *maps6, uint8_t *headers, uint32_t *tickets, uint8_t *statuses, uint32_t *status_tickets,
                           uint32_t first, uint32_t stat_sn, uint8_t level);
-void drawbevel_core_offer(uint32_t *numbers15, uint64_t *maps6, uint8_t *headers, uint32_t *tickets, uint32_t connection, uint32_t ticket,
-                          const uint8_t *pdu, size_t length, uint32_t *answer4);
+/* The uint64_t of a call is its answer, and above its 32 bits the one value that it has. */
+uint64_t drawbevel_core_offer(uint32_t *numbers15, uint64_t *maps6, uint8_t *headers, uint32_t *tickets, uint32_t connection, uint32_t ticket,
+                              const uint8_t *pdu, size_t length);
 void drawbevel_core_take(uint32_t *numbers15, uint64_t *maps6, const uint8_t *headers, const uint32_t *tickets, uint8_t *out, size_t lent,
                          uint32_t *answer4);
 void drawbevel_core_logout(uint32_t *numbers15, uint64_t *maps6, uint32_t connection, uint8_t reason, uint32_t *answer4);
-void drawbevel_core_open(uint32_t *numbers15, uint64_t *maps6, uint32_t connection, uint32_t stat_sn, uint32_t *answer4);
-void drawbevel_core_send(uint32_t *numbers15, uint64_t *maps6, uint8_t *statuses, uint32_t *status_tickets, uint32_t connection, uint32_t ticket,
-                         const uint64_t *words10, uint8_t *out, size_t lent, uint32_t *answer4);
-void drawbevel_core_acknowledge(uint32_t *numbers15, uint64_t *maps6, uint32_t connection, uint32_t exp_stat_sn, uint32_t *answer4);
+uint64_t drawbevel_core_open(uint32_t *numbers15, uint64_t *maps6, uint32_t connection, uint32_t stat_sn);
+uint64_t drawbevel_core_send(uint32_t *numbers15, uint64_t *maps6, uint8_t *statuses, uint32_t *status_tickets, uint32_t connection, uint32_t ticket,
+                             const uint64_t *words10, uint8_t *out, size_t lent);
+uint64_t drawbevel_core_acknowledge(uint32_t *numbers15, uint64_t *maps6, uint32_t connection, uint32_t exp_stat_sn);
 void drawbevel_core_snack(const uint32_t *numbers15, const uint64_t *maps6, uint32_t connection, const uint8_t *pdu, size_t length, uint32_t *answer4);
-void drawbevel_core_resend(const uint32_t *numbers15, const uint64_t *maps6, const uint8_t *statuses, const uint32_t *status_tickets,
-                           uint32_t connection, uint32_t stat_sn, uint8_t *out, size_t lent, uint32_t *answer4);
+uint64_t drawbevel_core_resend(const uint32_t *numbers15, const uint64_t *maps6, const uint8_t *statuses, const uint32_t *status_tickets,
+                               uint32_t connection, uint32_t stat_sn, uint8_t *out, size_t lent);
 void drawbevel_core_window(const uint32_t *numbers15, const uint64_t *maps6, uint32_t *answer4);
 
 /* A fresh session: its first command number, connection 0's first StatSN and the ErrorRecoveryLevel.
@@ -261,9 +262,7 @@ static inline void drawbevel_fresh(struct drawbevel_session *s, uint32_t first, 
  * or NOCONN, CLOSED, a refusal of drawbevel_read, FIELD for another kind. */
 static inline uint32_t drawbevel_offer(struct drawbevel_session *s, uint32_t connection, uint32_t ticket, const uint8_t *pdu, size_t length)
 {
-    uint32_t a[4];
-    drawbevel_core_offer(s->numbers, s->maps, s->headers, s->tickets, connection, ticket, pdu, length, a);
-    return a[0];
+    return (uint32_t)drawbevel_core_offer(s->numbers, s->maps, s->headers, s->tickets, connection, ticket, pdu, length);
 }
 
 struct drawbevel_command {
@@ -301,9 +300,7 @@ static inline uint32_t drawbevel_logout(struct drawbevel_session *s, uint32_t co
  * or NOCONN, OPEN. */
 static inline uint32_t drawbevel_open(struct drawbevel_session *s, uint32_t connection, uint32_t stat_sn)
 {
-    uint32_t a[4];
-    drawbevel_core_open(s->numbers, s->maps, connection, stat_sn, a);
-    return a[0];
+    return (uint32_t)drawbevel_core_open(s->numbers, s->maps, connection, stat_sn);
 }
 
 /* Sends a response: its header with the next StatSN and both window numbers goes to the first 48 bytes of out, and is kept with the ticket.
@@ -313,11 +310,11 @@ static inline uint32_t drawbevel_send(struct drawbevel_session *s, uint32_t conn
                                       uint8_t *out, size_t lent, uint32_t *stat_sn)
 {
     uint64_t w[10];
-    uint32_t a[4];
+    uint64_t a;
     drawbevel_response_words(r, w);
-    drawbevel_core_send(s->numbers, s->maps, s->statuses, s->status_tickets, connection, ticket, w, out, lent, a);
-    *stat_sn = a[1];
-    return a[0];
+    a = drawbevel_core_send(s->numbers, s->maps, s->statuses, s->status_tickets, connection, ticket, w, out, lent);
+    *stat_sn = (uint32_t)(a >> 32);
+    return (uint32_t)a;
 }
 
 /* Acknowledges the statuses before an ExpStatSN.
@@ -325,10 +322,9 @@ static inline uint32_t drawbevel_send(struct drawbevel_session *s, uint32_t conn
  * or NOCONN, CLOSED, STALE. */
 static inline uint32_t drawbevel_acknowledge(struct drawbevel_session *s, uint32_t connection, uint32_t exp_stat_sn, uint32_t *released)
 {
-    uint32_t a[4];
-    drawbevel_core_acknowledge(s->numbers, s->maps, connection, exp_stat_sn, a);
-    *released = a[1];
-    return a[0];
+    uint64_t a = drawbevel_core_acknowledge(s->numbers, s->maps, connection, exp_stat_sn);
+    *released = (uint32_t)(a >> 32);
+    return (uint32_t)a;
 }
 
 /* The run of statuses that a status SNACK asks for, each to be sent again by drawbevel_resend.
@@ -350,10 +346,9 @@ static inline uint32_t drawbevel_snack(const struct drawbevel_session *s, uint32
 static inline uint32_t drawbevel_resend(const struct drawbevel_session *s, uint32_t connection, uint32_t stat_sn, uint8_t *out, size_t lent,
                                         uint32_t *ticket)
 {
-    uint32_t a[4];
-    drawbevel_core_resend(s->numbers, s->maps, s->statuses, s->status_tickets, connection, stat_sn, out, lent, a);
-    *ticket = a[1];
-    return a[0];
+    uint64_t a = drawbevel_core_resend(s->numbers, s->maps, s->statuses, s->status_tickets, connection, stat_sn, out, lent);
+    *ticket = (uint32_t)(a >> 32);
+    return (uint32_t)a;
 }
 
 /* ExpCmdSN and MaxCmdSN.

@@ -1,5 +1,5 @@
 // The session's calls for C. A session is its numbers and maps, and the arrays of headers and tickets; each call is lent what it
-// touches, and leaves its answer in four words.
+// touches. An answer of one value at most goes back in a register, another in four words.
 use refusal::Refusal;
 use response_header::Response;
 use session::command::OfferAnswer;
@@ -24,7 +24,7 @@ ghost use Prim.Native.Nat.{ℕ};
 ghost use Rattle.session.specs.Book.{Call};
 ghost use Rattle.session.specs.Agree.{state};
 ghost use Rattle.state_words.specs.State.{sessionOf};
-ghost use Rattle.state_words.specs.Answer.{Said, SaidSend, Fresh};
+ghost use Rattle.state_words.specs.Answer.{Said, SaidSend, Fresh, packed};
 ghost use Rattle.words.specs.Words.{responseOf};
 
 // Offers a whole PDU with its ticket on a connection.
@@ -37,21 +37,16 @@ pub extern "C" fn drawbevel_core_offer(
     conn: u32,
     ticket: u32,
     pdu: &[u8],
-    answer: &mut [u32; 4],
-)
-    ensures { λ _. ⌜ ((hs ts : List ℕ) → Said (Call.offer conn ticket (now (pdu .entry))) (state (sessionOf (now (n .entry)) (now (m .entry))) (now (headers .entry)) (now (tickets .entry)) hs ts) (now (answer .exit)) [] (state (sessionOf (now (n .exit)) (now (m .exit))) (now (headers .exit)) (now (tickets .exit)) hs ts)) ⌝ }
+) -> u64
+    ensures { λ r. ⌜ ((hs ts : List ℕ) → Said (Call.offer conn ticket (now (pdu .entry))) (state (sessionOf (now (n .entry)) (now (m .entry))) (now (headers .entry)) (now (tickets .entry)) hs ts) (packed r) [] (state (sessionOf (now (n .exit)) (now (m .exit))) (now (headers .exit)) (now (tickets .exit)) hs ts)) ⌝ }
 {
     let s = load(n, m);
     match session::command::offer(s, conn, ticket, pdu, headers, tickets) {
-        OfferAnswer::Refused(f) => {
-            *answer = answers::refused(f);
-        }
-        OfferAnswer::Immediate => {
-            *answer = [IMMEDIATE, 0, 0, 0];
-        }
+        OfferAnswer::Refused(f) => answers::pack_refused(f),
+        OfferAnswer::Immediate => answers::pack(IMMEDIATE, 0),
         OfferAnswer::Numbered(x) => {
             hold(m, conn, x);
-            *answer = answers::placed(x);
+            answers::placed(x)
         }
     }
 }
@@ -90,18 +85,15 @@ pub extern "C" fn drawbevel_core_open(
     m: &mut [u64; 6],
     conn: u32,
     stat_sn: u32,
-    answer: &mut [u32; 4],
-)
-    ensures { λ _. ⌜ ((h t hs ts : List ℕ) → Said (Call.opening conn «stat_sn») (state (sessionOf (now (n .entry)) (now (m .entry))) h t hs ts) (now (answer .exit)) [] (state (sessionOf (now (n .exit)) (now (m .exit))) h t hs ts)) ⌝ }
+) -> u64
+    ensures { λ r. ⌜ ((h t hs ts : List ℕ) → Said (Call.opening conn «stat_sn») (state (sessionOf (now (n .entry)) (now (m .entry))) h t hs ts) (packed r) [] (state (sessionOf (now (n .exit)) (now (m .exit))) h t hs ts)) ⌝ }
 {
     let s = load(n, m);
     match session::connection::open_connection(s, conn, stat_sn) {
-        OpenAnswer::Refused(f) => {
-            *answer = answers::refused(f);
-        }
+        OpenAnswer::Refused(f) => answers::pack_refused(f),
         OpenAnswer::Opened(l) => {
             store_ledger(n, conn, l);
-            *answer = [DONE, 0, 0, 0];
+            answers::pack(DONE, 0)
         }
     }
 }
@@ -144,18 +136,15 @@ pub extern "C" fn drawbevel_core_acknowledge(
     m: &mut [u64; 6],
     conn: u32,
     exp_stat_sn: u32,
-    answer: &mut [u32; 4],
-)
-    ensures { λ _. ⌜ ((h t hs ts : List ℕ) → Said (Call.acknowledge conn «exp_stat_sn») (state (sessionOf (now (n .entry)) (now (m .entry))) h t hs ts) (now (answer .exit)) [] (state (sessionOf (now (n .exit)) (now (m .exit))) h t hs ts)) ⌝ }
+) -> u64
+    ensures { λ r. ⌜ ((h t hs ts : List ℕ) → Said (Call.acknowledge conn «exp_stat_sn») (state (sessionOf (now (n .entry)) (now (m .entry))) h t hs ts) (packed r) [] (state (sessionOf (now (n .exit)) (now (m .exit))) h t hs ts)) ⌝ }
 {
     let s = load(n, m);
     match session::status::acknowledge(s, conn, exp_stat_sn) {
-        AcknowledgeAnswer::Refused(f) => {
-            *answer = answers::refused(f);
-        }
+        AcknowledgeAnswer::Refused(f) => answers::pack_refused(f),
         AcknowledgeAnswer::Acknowledged { count, ledger } => {
             store_ledger(n, conn, ledger);
-            *answer = [DONE, count, 0, 0];
+            answers::pack(DONE, count)
         }
     }
 }
@@ -186,13 +175,12 @@ pub extern "C" fn drawbevel_core_resend(
     conn: u32,
     stat_sn: u32,
     out: &mut [u8],
-    answer: &mut [u32; 4],
-)
-    ensures { λ _. ⌜ ((h t : List ℕ) → Said (Call.resend conn «stat_sn» (now (out .entry))) (state (sessionOf (now (n .entry)) (now (m .entry))) h t (now (statuses .entry)) (now («status_tickets» .entry))) (now (answer .exit)) (now (out .exit)) (state (sessionOf (now (n .entry)) (now (m .entry))) h t (now (statuses .entry)) (now («status_tickets» .entry)))) ⌝ }
+) -> u64
+    ensures { λ r. ⌜ ((h t : List ℕ) → Said (Call.resend conn «stat_sn» (now (out .entry))) (state (sessionOf (now (n .entry)) (now (m .entry))) h t (now (statuses .entry)) (now («status_tickets» .entry))) (packed r) (now (out .exit)) (state (sessionOf (now (n .entry)) (now (m .entry))) h t (now (statuses .entry)) (now («status_tickets» .entry)))) ⌝ }
 {
     let s = load(n, m);
     let a = session::status::resend(s, conn, stat_sn, statuses, status_tickets, out);
-    *answer = answers::resent(a);
+    answers::resent(a)
 }
 
 // ExpCmdSN and MaxCmdSN.
@@ -214,21 +202,16 @@ fn send_known(
     ticket: u32,
     r: Response,
     out: &mut [u8],
-    answer: &mut [u32; 4],
-)
-    ensures { λ _. ⌜ ((h t : List ℕ) → Said (Call.send conn ticket r (now (out .entry))) (state (sessionOf (now (n .entry)) (now (m .entry))) h t (now (statuses .entry)) (now («status_tickets» .entry))) (now (answer .exit)) (now (out .exit)) (state (sessionOf (now (n .exit)) (now (m .exit))) h t (now (statuses .exit)) (now («status_tickets» .exit)))) ⌝ }
+) -> u64
+    ensures { λ w. ⌜ ((h t : List ℕ) → Said (Call.send conn ticket r (now (out .entry))) (state (sessionOf (now (n .entry)) (now (m .entry))) h t (now (statuses .entry)) (now («status_tickets» .entry))) (packed w) (now (out .exit)) (state (sessionOf (now (n .exit)) (now (m .exit))) h t (now (statuses .exit)) (now («status_tickets» .exit)))) ⌝ }
 {
     let s = load(n, m);
     match session::status::send(s, conn, ticket, r, out, statuses, status_tickets) {
-        SendAnswer::Refused(f) => {
-            *answer = answers::refused(f);
-        }
-        SendAnswer::Sent(stat_sn) => {
-            *answer = [DONE, stat_sn, 0, 0];
-        }
+        SendAnswer::Refused(f) => answers::pack_refused(f),
+        SendAnswer::Sent(stat_sn) => answers::pack(DONE, stat_sn),
         SendAnswer::Stored { stat_sn, ledger } => {
             store_ledger(n, conn, ledger);
-            *answer = [DONE, stat_sn, 0, 0];
+            answers::pack(DONE, stat_sn)
         }
     }
 }
@@ -244,15 +227,12 @@ pub extern "C" fn drawbevel_core_send(
     ticket: u32,
     words: &[u64; 10],
     out: &mut [u8],
-    answer: &mut [u32; 4],
-)
-    ensures { λ _. ⌜ ((h t : List ℕ) → SaidSend (responseOf (now (words .entry))) conn ticket (now (out .entry)) (state (sessionOf (now (n .entry)) (now (m .entry))) h t (now (statuses .entry)) (now («status_tickets» .entry))) (now (answer .exit)) (now (out .exit)) (state (sessionOf (now (n .exit)) (now (m .exit))) h t (now (statuses .exit)) (now («status_tickets» .exit)))) ⌝ }
+) -> u64
+    ensures { λ r. ⌜ ((h t : List ℕ) → SaidSend (responseOf (now (words .entry))) conn ticket (now (out .entry)) (state (sessionOf (now (n .entry)) (now (m .entry))) h t (now (statuses .entry)) (now («status_tickets» .entry))) (packed r) (now (out .exit)) (state (sessionOf (now (n .exit)) (now (m .exit))) h t (now (statuses .exit)) (now («status_tickets» .exit)))) ⌝ }
 {
     match response(words) {
-        Made::Known(r) => send_known(n, m, statuses, status_tickets, conn, ticket, r, out, answer),
-        Made::Unknown => {
-            *answer = answers::refused(Refusal::Field);
-        }
+        Made::Known(r) => send_known(n, m, statuses, status_tickets, conn, ticket, r, out),
+        Made::Unknown => answers::pack_refused(Refusal::Field),
     }
 }
 

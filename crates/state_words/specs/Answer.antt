@@ -1,5 +1,5 @@
--- A session's answer as four words: what came, and its values, 0 where it has none.
-use Prim.Native.Nat.{ℕ}
+-- A session's answer as four words: what came, and its values, 0 where it has none; and as one number, where it has one value at most.
+use Prim.Native.Nat.{ℕ, _%_, _/_, _^_}
 use mathlib.Core.Path.{_≡_}
 use mathlib.Core.List.{List, [], _∷_}
 use lib.ListN.{replicate}
@@ -35,6 +35,10 @@ answerWords (acknowledged n) = 32 ∷ n ∷ 0 ∷ 0 ∷ []
 answerWords (run f n) = 32 ∷ f ∷ n ∷ 0 ∷ []
 answerWords (resent t) = 32 ∷ t ∷ 0 ∷ 0 ∷ []
 answerWords (numbers e m) = 32 ∷ e ∷ m ∷ 0 ∷ []
+
+-- an answer of one value at most, as one number: what came, and above its 32 bits the value
+abbrev pub packed : ℕ → List ℕ
+packed r = r % 2 ^ 32 ∷ r / 2 ^ 32 ∷ 0 ∷ 0 ∷ []
 
 -- the contract of every call: it did as the session does, and the words are its answer's
 pub record Said (call : Call) (s : State) (w : List ℕ) (o : List ℕ) (s' : State) : Type 0 where

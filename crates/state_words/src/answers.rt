@@ -1,4 +1,4 @@
-// A session's answers as four words.
+// A session's answers as four words, and as one number where there is one value at most.
 use refusal::Refusal;
 use session::WindowNumbers;
 use session::status::ResendAnswer;
@@ -7,11 +7,12 @@ use window::Offered;
 use window::Origin;
 use window::Taken;
 ghost use mathlib.Core.Path.{_≡_};
+ghost use mathlib.Core.List.{[], _∷_};
 ghost use Rattle.session.specs.Book.{Answer};
 ghost use Rattle.session.specs.Agree.{snackAnswer, resendAnswer};
 ghost use Rattle.refusal.specs.Refusal.{number};
 ghost use Rattle.window.specs.Agree.{originOf};
-ghost use Rattle.state_words.specs.Answer.{originWord, answerWords, windowWords};
+ghost use Rattle.state_words.specs.Answer.{originWord, answerWords, windowWords, packed};
 
 pub const DONE: u32 = 32;
 
@@ -37,14 +38,27 @@ pub fn refused(f: Refusal) -> [u32; 4]
     [refusal::number_of(f) as u32, 0, 0, 0]
 }
 
-pub fn placed(a: Offered) -> [u32; 4]
-    ensures { λ w. ⌜ w ≡ windowWords (Rattle.window.specs.Agree.offerAnswer a) ⌝ }
+// An answer of one value at most, which goes back in a register.
+pub fn pack(answer: u32, value: u32) -> u64
+    ensures { λ r. ⌜ packed r ≡ answer ∷ value ∷ 0 ∷ 0 ∷ [] ⌝ }
+{
+    answer as u64 + value as u64 * 0x1_0000_0000
+}
+
+pub fn pack_refused(f: Refusal) -> u64
+    ensures { λ r. ⌜ packed r ≡ answerWords (Answer.refused (number f)) ⌝ }
+{
+    pack(refusal::number_of(f) as u32, 0)
+}
+
+pub fn placed(a: Offered) -> u64
+    ensures { λ r. ⌜ packed r ≡ windowWords (Rattle.window.specs.Agree.offerAnswer a) ⌝ }
 {
     match a {
-        Offered::Kept(_) => [KEPT, 0, 0, 0],
-        Offered::Duplicate => [DUPLICATE, 0, 0, 0],
-        Offered::Passed => [PASSED, 0, 0, 0],
-        Offered::Beyond => [BEYOND, 0, 0, 0],
+        Offered::Kept(_) => pack(KEPT, 0),
+        Offered::Duplicate => pack(DUPLICATE, 0),
+        Offered::Passed => pack(PASSED, 0),
+        Offered::Beyond => pack(BEYOND, 0),
     }
 }
 
@@ -80,12 +94,12 @@ pub fn run(a: SnackAnswer) -> [u32; 4]
     }
 }
 
-pub fn resent(a: ResendAnswer) -> [u32; 4]
-    ensures { λ w. ⌜ w ≡ answerWords (resendAnswer a) ⌝ }
+pub fn resent(a: ResendAnswer) -> u64
+    ensures { λ r. ⌜ packed r ≡ answerWords (resendAnswer a) ⌝ }
 {
     match a {
-        ResendAnswer::Refused(f) => refused(f),
-        ResendAnswer::Resent(t) => [DONE, t, 0, 0],
+        ResendAnswer::Refused(f) => pack_refused(f),
+        ResendAnswer::Resent(t) => pack(DONE, t),
     }
 }
 

@@ -39,6 +39,18 @@ pub type ResponseWords = [u64; 10];
 /// A session's answer: a refusal's number or an answer's, and what it carries.
 pub type Answer = [u32; 4];
 
+/// An answer of one value at most, as it comes back in a register: what came, and above its 32 bits the value.
+#[derive(Clone, Copy)]
+pub struct Packed(u64);
+
+impl Packed {
+    /// The answer's number, and its value.
+    #[inline]
+    pub fn parts(self) -> (u32, u32) {
+        (self.0 as u32, (self.0 >> 32) as u32)
+    }
+}
+
 /// A login's answer: 0 or a refusal's number, status, stage, T, CSG, NSG, TSIH, length of the text.
 pub type LoginWords = [u64; 8];
 
@@ -145,8 +157,8 @@ impl Parts {
     }
 
     #[inline]
-    pub fn offer(&mut self, connection: u32, ticket: u32, pdu: &[u8]) -> Answer {
-        answer_of(|answer| unsafe {
+    pub fn offer(&mut self, connection: u32, ticket: u32, pdu: &[u8]) -> Packed {
+        Packed(unsafe {
             drawbevel_core_offer(
                 &mut self.numbers,
                 &mut self.maps,
@@ -156,8 +168,7 @@ impl Parts {
                 ticket,
                 pdu.as_ptr(),
                 pdu.len(),
-                answer,
-            );
+            )
         })
     }
 
@@ -177,15 +188,9 @@ impl Parts {
     }
 
     #[inline]
-    pub fn open(&mut self, connection: u32, stat_sn: u32) -> Answer {
-        answer_of(|answer| unsafe {
-            drawbevel_core_open(
-                &mut self.numbers,
-                &mut self.maps,
-                connection,
-                stat_sn,
-                answer,
-            );
+    pub fn open(&mut self, connection: u32, stat_sn: u32) -> Packed {
+        Packed(unsafe {
+            drawbevel_core_open(&mut self.numbers, &mut self.maps, connection, stat_sn)
         })
     }
 
@@ -203,15 +208,9 @@ impl Parts {
     }
 
     #[inline]
-    pub fn acknowledge(&mut self, connection: u32, exp_stat_sn: u32) -> Answer {
-        answer_of(|answer| unsafe {
-            drawbevel_core_acknowledge(
-                &mut self.numbers,
-                &mut self.maps,
-                connection,
-                exp_stat_sn,
-                answer,
-            );
+    pub fn acknowledge(&mut self, connection: u32, exp_stat_sn: u32) -> Packed {
+        Packed(unsafe {
+            drawbevel_core_acknowledge(&mut self.numbers, &mut self.maps, connection, exp_stat_sn)
         })
     }
 
@@ -236,8 +235,8 @@ impl Parts {
         ticket: u32,
         out: &mut [u8],
         words: &ResponseWords,
-    ) -> Answer {
-        answer_of(|answer| unsafe {
+    ) -> Packed {
+        Packed(unsafe {
             drawbevel_core_send(
                 &mut self.numbers,
                 &mut self.maps,
@@ -248,14 +247,13 @@ impl Parts {
                 words,
                 out.as_mut_ptr(),
                 out.len(),
-                answer,
-            );
+            )
         })
     }
 
     #[inline]
-    pub fn resend(&self, connection: u32, stat_sn: u32, out: &mut [u8]) -> Answer {
-        answer_of(|answer| unsafe {
+    pub fn resend(&self, connection: u32, stat_sn: u32, out: &mut [u8]) -> Packed {
+        Packed(unsafe {
             drawbevel_core_resend(
                 &self.numbers,
                 &self.maps,
@@ -265,8 +263,7 @@ impl Parts {
                 stat_sn,
                 out.as_mut_ptr(),
                 out.len(),
-                answer,
-            );
+            )
         })
     }
 

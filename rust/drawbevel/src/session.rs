@@ -1,6 +1,6 @@
 //! A session: one object, its parts lent to the proved functions call by call.
 
-use crate::ffi::{Answer, Parts};
+use crate::ffi::{Answer, Packed, Parts};
 use crate::words::{refusal_of, words_of};
 use calls::{LogoutCounts, Offer, Out, Refusal, Response, Run, Take, Window};
 
@@ -30,6 +30,16 @@ fn done([answer, a, b, c]: Answer) -> Result<(u32, [u32; 3]), Refusal> {
     Ok((answer, [a, b, c]))
 }
 
+/// The answer's number and its value where it is no refusal.
+#[inline]
+fn one(packed: Packed) -> Result<(u32, u32), Refusal> {
+    let (answer, value) = packed.parts();
+    if answer < DONE {
+        return Err(refusal_of(answer, 0));
+    }
+    Ok((answer, value))
+}
+
 impl Session {
     /// A fresh session: its first command number, connection 0's first StatSN, and the ErrorRecoveryLevel.
     pub fn new(first: u32, stat_sn: u32, level: u8) -> Self {
@@ -41,7 +51,7 @@ impl Session {
     /// Offer a whole PDU that came on a connection.
     #[inline]
     pub fn offer(&mut self, connection: u32, ticket: u32, pdu: &[u8]) -> Result<Offer, Refusal> {
-        let (answer, _) = done(self.parts.offer(connection, ticket, pdu))?;
+        let (answer, _) = one(self.parts.offer(connection, ticket, pdu))?;
         Ok(match answer {
             KEPT => Offer::Kept,
             DUPLICATE => Offer::Duplicate,
@@ -76,7 +86,7 @@ impl Session {
     /// Open a closed connection.
     #[inline]
     pub fn open(&mut self, connection: u32, stat_sn: u32) -> Result<(), Refusal> {
-        done(self.parts.open(connection, stat_sn)).map(|_| ())
+        one(self.parts.open(connection, stat_sn)).map(|_| ())
     }
 
     /// Send a response; its header is written to `out`. The answer is its StatSN.
@@ -88,18 +98,15 @@ impl Session {
         out: &mut [u8],
         response: &Response,
     ) -> Result<u32, Refusal> {
-        let (_, [stat_sn, ..]) =
-            done(
-                self.parts
-                    .send(connection, ticket, out, &words_of(response)),
-            )?;
+        let words = words_of(response);
+        let (_, stat_sn) = one(self.parts.send(connection, ticket, out, &words))?;
         Ok(stat_sn)
     }
 
     /// Acknowledge every status before this number. The answer is how many were released.
     #[inline]
     pub fn acknowledge(&mut self, connection: u32, exp_stat_sn: u32) -> Result<u32, Refusal> {
-        let (_, [count, ..]) = done(self.parts.acknowledge(connection, exp_stat_sn))?;
+        let (_, count) = one(self.parts.acknowledge(connection, exp_stat_sn))?;
         Ok(count)
     }
 
@@ -113,7 +120,7 @@ impl Session {
     /// Write a held status again, to `out`. The answer is its ticket.
     #[inline]
     pub fn resend(&self, connection: u32, stat_sn: u32, out: &mut [u8]) -> Result<u32, Refusal> {
-        let (_, [ticket, ..]) = done(self.parts.resend(connection, stat_sn, out))?;
+        let (_, ticket) = one(self.parts.resend(connection, stat_sn, out))?;
         Ok(ticket)
     }
 

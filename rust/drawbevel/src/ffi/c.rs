@@ -40,8 +40,7 @@ unsafe extern "C" {
         ticket: u32,
         pdu: *const u8,
         length: usize,
-        answer: *mut Answer,
-    );
+    ) -> u64;
     pub fn drawbevel_core_take(
         numbers: *mut Numbers,
         maps: *mut Maps,
@@ -56,8 +55,7 @@ unsafe extern "C" {
         maps: *mut Maps,
         connection: u32,
         stat_sn: u32,
-        answer: *mut Answer,
-    );
+    ) -> u64;
     pub fn drawbevel_core_logout(
         numbers: *mut Numbers,
         maps: *mut Maps,
@@ -70,8 +68,7 @@ unsafe extern "C" {
         maps: *mut Maps,
         connection: u32,
         exp_stat_sn: u32,
-        answer: *mut Answer,
-    );
+    ) -> u64;
     pub fn drawbevel_core_snack(
         numbers: *const Numbers,
         maps: *const Maps,
@@ -90,8 +87,7 @@ unsafe extern "C" {
         words: *const ResponseWords,
         out: *mut u8,
         length: usize,
-        answer: *mut Answer,
-    );
+    ) -> u64;
     pub fn drawbevel_core_resend(
         numbers: *const Numbers,
         maps: *const Maps,
@@ -101,8 +97,7 @@ unsafe extern "C" {
         stat_sn: u32,
         out: *mut u8,
         length: usize,
-        answer: *mut Answer,
-    );
+    ) -> u64;
     pub fn drawbevel_core_window(numbers: *const Numbers, maps: *const Maps, answer: *mut Answer);
     pub fn drawbevel_core_login_fresh(
         numbers: *mut LoginNumbers,

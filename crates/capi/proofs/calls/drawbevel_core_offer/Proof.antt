@@ -9,7 +9,7 @@ returns c hs ts =
     record {
       answer = offerAnswer (c .before .before .before .before .offer .result);
       did = rw (← (c .before .before .before .before .before .before .before .load .ensures), e) (rw e at (c .before .before .before .before .offer .ensures hs ts));
-      words = rw e (c .refused .ensures);
+      words = rw e (c .pack-refused .ensures);
     }
 
 returns-2 : tie.Need-returns-2
@@ -18,7 +18,7 @@ returns-2 c hs ts =
     record {
       answer = offerAnswer (c .before .before .before .offer .result);
       did = rw (← (c .before .before .before .before .before .before .load .ensures), e) (rw e at (c .before .before .before .offer .ensures hs ts));
-      words = rw e;
+      words = rw e (c .pack .ensures);
     }
 
 returns-3 : tie.Need-returns-3
@@ -32,5 +32,4 @@ returns-3 c hs ts =
 
 pub drawbevel-core-offer-spec : {M : Type 1} → statement M
 drawbevel-core-offer-spec =
-    tie.close (tie.spec
-    (λ c κs. search needs) (λ c κs. search needs) (λ c. search needs) (λ c κs. search needs) (λ c. search needs) (λ c. search needs) (λ c κs. search needs) (λ c κs. search needs) returns returns-2 returns-3)
+    tie.close (tie.spec (λ c κs. search needs) (λ c κs. search needs) (λ c. search needs) (λ c κs. search needs) (λ c. search needs) (λ c κs. search needs) (λ c. search needs) (λ c κs. search needs) (λ c κs. search needs) returns returns-2 returns-3)

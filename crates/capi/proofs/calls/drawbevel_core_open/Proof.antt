@@ -9,7 +9,7 @@ returns c h t hs ts =
     record {
       answer = openAnswer (c .before .before .before .before .open-connection .result);
       did = rw (← (c .before .before .before .before .before .load .ensures), e) (rw e at (c .before .before .before .before .open-connection .ensures h t hs ts));
-      words = rw e (c .refused .ensures);
+      words = rw e (c .pack-refused .ensures);
     }
 
 returns-2 : tie.Need-returns-2
@@ -18,10 +18,9 @@ returns-2 c h t hs ts =
     record {
       answer = openAnswer (c .before .before .before .before .before .before .open-connection .result);
       did = rw (c .before .store-ledger .ensures, ← (c .before .before .before .before .before .before .before .load .ensures), e) (rw e at (c .before .before .before .before .before .before .open-connection .ensures h t hs ts));
-      words = rw e;
+      words = rw e (c .pack .ensures);
     }
 
 pub drawbevel-core-open-spec : {M : Type 1} → statement M
 drawbevel-core-open-spec =
-    tie.close (tie.spec
-    (λ c κs. search needs) (λ c κs. search needs) (λ c. search needs) (λ c κs. search needs) (λ c. search needs) (λ c κs. search needs) returns returns-2)
+    tie.close (tie.spec (λ c κs. search needs) (λ c κs. search needs) (λ c. search needs) (λ c κs. search needs) (λ c. search needs) (λ c κs. search needs) (λ c κs. search needs) returns returns-2)

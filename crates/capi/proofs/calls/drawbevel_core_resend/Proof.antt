@@ -12,5 +12,4 @@ returns c h t = record {
 
 pub drawbevel-core-resend-spec : {M : Type 1} → statement M
 drawbevel-core-resend-spec =
-    tie.close (tie.spec
-    (λ c κs. search needs) (λ c κs. search needs) (λ c κs. search needs) (λ c. search needs) returns)
+    tie.close (tie.spec (λ c κs. search needs) (λ c κs. search needs) (λ c κs. search needs) (λ c. search needs) returns)

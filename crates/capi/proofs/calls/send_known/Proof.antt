@@ -9,7 +9,7 @@ returns c h t =
     record {
       answer = sendAnswer (c .before .before .before .before .before .before .send .result);
       did = rw (← (c .before .before .before .before .before .before .before .before .before .before .load .ensures), e) (rw e at (c .before .before .before .before .before .before .send .ensures h t));
-      words = rw e (c .refused .ensures);
+      words = rw e (c .pack-refused .ensures);
     }
 
 returns-2 : tie.Need-returns-2
@@ -18,7 +18,7 @@ returns-2 c h t =
     record {
       answer = sendAnswer (c .before .before .before .before .before .before .send .result);
       did = rw (← (c .before .before .before .before .before .before .before .before .before .before .load .ensures), e) (rw e at (c .before .before .before .before .before .before .send .ensures h t));
-      words = rw e;
+      words = rw e (c .pack .ensures);
     }
 
 returns-3 : tie.Need-returns-3
@@ -27,10 +27,9 @@ returns-3 c h t =
     record {
       answer = sendAnswer (c .before .before .before .before .before .before .before .before .send .result);
       did = rw (c .before .store-ledger .ensures, ← (c .before .before .before .before .before .before .before .before .before .before .before .before .load .ensures), e) (rw e at (c .before .before .before .before .before .before .before .before .send .ensures h t));
-      words = rw e;
+      words = rw e (c .pack2 .ensures);
     }
 
 pub send-known-spec : {M : Type 1} → statement M
 send-known-spec =
-    tie.close (tie.spec
-    (λ c κs. search needs) (λ c κs. search needs) (λ c. search needs) (λ c κs. search needs) (λ c. search needs) (λ c. search needs) (λ c κs. search needs) (λ c. search needs) returns (λ c. search needs) returns-2 (λ c. search needs) returns-3)
+    tie.close (tie.spec (λ c κs. search needs) (λ c κs. search needs) (λ c. search needs) (λ c κs. search needs) (λ c. search needs) (λ c κs. search needs) (λ c. search needs) (λ c κs. search needs) (λ c κs. search needs) (λ c. search needs) returns (λ c. search needs) returns-2 (λ c. search needs) returns-3)
