@@ -21,7 +21,7 @@ use words::response::Made;
 use words::response::response;
 ghost use mathlib.Core.List.{List, []};
 ghost use Prim.Native.Nat.{ℕ};
-ghost use Rattle.session.specs.Book.{Call};
+ghost use Rattle.book.specs.Book.{Call};
 ghost use Rattle.session.specs.Agree.{state};
 ghost use Rattle.state_words.specs.State.{sessionOf};
 ghost use Rattle.state_words.specs.Answer.{Said, SaidSend, Fresh, packed};

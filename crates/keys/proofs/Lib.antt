@@ -1,4 +1,2 @@
-pub mod Tables
 pub mod Said
-pub mod Ranges
 pub mod Standing

@@ -10,9 +10,9 @@ use lib.Dec.{eqb, leb}
 use borrow.Author.Tests.{eq-eqb, ne-eqb, leb-true}
 use Rattle.text.proofs.Laws.{decimal-length, here, &&-left, &&-right}
 use Rattle.keys.specs.Answer.{replyBytes, isSilent, answerFrom, answerText, replyIn, saidText, saidOf, saidBytes, WordIn}
-use Rattle.keys.specs.declared.value.Reply.{Reply}
-use Rattle.keys.specs.declared.value.Reply.the-variants as A
-use Rattle.keys.specs.declared.value.Judgement.{Judgement}
+use Rattle.key_values.specs.declared.value.Reply.{Reply}
+use Rattle.key_values.specs.declared.value.Reply.the-variants as A
+use Rattle.key_values.specs.declared.value.Judgement.{Judgement}
 use Rattle.keys.specs.declared.answer.Said.{Said}
 
 pub reply-length : (r : Reply) → length (replyBytes r) ≤ 13

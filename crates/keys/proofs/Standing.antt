@@ -6,13 +6,13 @@ use Prim.Native.Nat.{ℕ, _<_}
 use lib.Dec.{eqb, ltb, leb}
 use Rattle.text.specs.Text.{pick}
 use Rattle.text.proofs.Laws.{below, at, &&-left, &&-right, &&-true, here, past}
-use Rattle.keys.proofs.Tables.{agree, agrees}
-use Rattle.keys.specs.Table.{kindAt, known}
+use Rattle.key_table.proofs.Tables.{agree, agrees}
+use Rattle.key_table.specs.Table.{kindAt, known}
 use Rattle.keys.specs.Judge.{stands, leadingOnly, judgeBy, judgeKey}
-use Rattle.keys.specs.declared.table.Kind.{Kind}
-use Rattle.keys.specs.declared.table.Kind.the-variants as K
-use Rattle.keys.specs.declared.value.Judgement.{Judgement}
-use Rattle.keys.specs.declared.value.Judgement.the-variants as J
+use Rattle.key_table.specs.declared.table.Kind.{Kind}
+use Rattle.key_table.specs.declared.table.Kind.the-variants as K
+use Rattle.key_values.specs.declared.value.Judgement.{Judgement}
+use Rattle.key_values.specs.declared.value.Judgement.the-variants as J
 
 -- Operational keys and the security key by their kind, and by their place.
 abbrev secure : Kind → Bool

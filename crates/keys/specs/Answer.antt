@@ -6,10 +6,10 @@ use lib.ListN.{take, drop}
 use lib.Dec.{ltb}
 use Rattle.text.specs.Text.{pick, bytes}
 use Rattle.text.specs.Number.{decimal}
-use Rattle.keys.specs.declared.value.Reply.{Reply}
-use Rattle.keys.specs.declared.value.Reply.the-variants as A
-use Rattle.keys.specs.declared.value.Judgement.{Judgement}
-use Rattle.keys.specs.declared.value.Judgement.the-variants as J
+use Rattle.key_values.specs.declared.value.Reply.{Reply}
+use Rattle.key_values.specs.declared.value.Reply.the-variants as A
+use Rattle.key_values.specs.declared.value.Judgement.{Judgement}
+use Rattle.key_values.specs.declared.value.Judgement.the-variants as J
 use Rattle.keys.specs.declared.answer.Said.{Said}
 
 -- numbers in decimal

@@ -6,15 +6,15 @@ use lib.ListN.{length, getD, set}
 use lib.Dec.{eqb}
 use Rattle.text.specs.Text.{pick, bytes, same, listed}
 use Rattle.text.specs.Block.{within}
-use Rattle.keys.specs.Table.{keyOf, kindAt, rowAt}
-use Rattle.keys.specs.Settle.{settling, valued}
-use Rattle.keys.specs.declared.table.Kind.{Kind}
-use Rattle.keys.specs.declared.table.Kind.the-variants as K
-use Rattle.keys.specs.declared.value.Reply.{Reply}
-use Rattle.keys.specs.declared.value.Reply.the-variants as A
-use Rattle.keys.specs.declared.value.Judgement.{Judgement}
-use Rattle.keys.specs.declared.value.Judgement.the-variants as J
-use Rattle.keys.specs.declared.parameters.Settled.{Settled}
+use Rattle.key_table.specs.Table.{keyOf, kindAt, rowAt}
+use Rattle.key_values.specs.Settle.{settling, valued}
+use Rattle.key_table.specs.declared.table.Kind.{Kind}
+use Rattle.key_table.specs.declared.table.Kind.the-variants as K
+use Rattle.key_values.specs.declared.value.Reply.{Reply}
+use Rattle.key_values.specs.declared.value.Reply.the-variants as A
+use Rattle.key_values.specs.declared.value.Judgement.{Judgement}
+use Rattle.key_values.specs.declared.value.Judgement.the-variants as J
+use Rattle.key_table.specs.declared.parameters.Settled.{Settled}
 
 -- InitiatorName and TargetName: 1 to 223 bytes, else 0x0200
 abbrev pub goodLength : List ℕ → Bool

@@ -1,4 +1,2 @@
-pub mod Table
-pub mod Settle
 pub mod Judge
 pub mod Answer

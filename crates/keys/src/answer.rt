@@ -1,6 +1,6 @@
 // The answer to a judged pair, put after the first bytes of an output.
-use crate::value::Judgement;
-use crate::value::Reply;
+use key_values::value::Judgement;
+use key_values::value::Reply;
 use text::number::put_decimal;
 use text::slice::append;
 ghost use mathlib.Core.Path.{_≡_};

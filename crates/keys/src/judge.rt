@@ -1,20 +1,20 @@
 // One pair of a block, judged: wrong stage, leading login only and twice come before its value.
-use crate::parameters::MAX_RECV_DATA_SEGMENT_LENGTH;
-use crate::table::AUTH_METHOD;
-use crate::table::KNOWN;
-use crate::table::Kind;
-use crate::table::TASK_REPORTING;
-use crate::table::kind_of;
-use crate::value::Judgement;
-use crate::value::Reply;
-use crate::value::settle;
+use key_table::parameters::MAX_RECV_DATA_SEGMENT_LENGTH;
+use key_table::table::AUTH_METHOD;
+use key_table::table::KNOWN;
+use key_table::table::Kind;
+use key_table::table::TASK_REPORTING;
+use key_table::table::kind_of;
+use key_values::value::Judgement;
+use key_values::value::Reply;
+use key_values::value::settle;
 use text::slice::lists;
 use text::slice::same_bytes;
 ghost use mathlib.Core.Path.{_≡_};
 ghost use mathlib.Core.Bool.{true};
 ghost use Prim.Native.Nat.{_≤_, _<_};
 ghost use lib.ListN.{set};
-ghost use Rattle.keys.specs.Table.{kindAt};
+ghost use Rattle.key_table.specs.Table.{kindAt};
 ghost use Rattle.keys.specs.Judge.{goodLength, initiatorName, targetName, sessionType, digest, taskReporting, authMethod, judgeBy, stands, leadingOnly, judgeKey, judgeAfter, settledOf, after};
 
 // InitiatorName and TargetName have 1 to 223 bytes.

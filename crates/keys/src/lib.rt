@@ -1,6 +1,3 @@
 // The keys of the login phase (RFC 7143, section 13): their names, rules and ranges, what an offered value settles, and its answer.
 pub mod answer;
 pub mod judge;
-pub mod parameters;
-pub mod table;
-pub mod value;

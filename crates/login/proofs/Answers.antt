@@ -10,7 +10,7 @@ use native.Mathlib.Nat.{add-sub-cancel-left}
 use lib.ListN.{length, drop, take}
 use lib.Seq.{take-at, length-take-le}
 use Rattle.request_header.specs.declared.Login.{Login}
-use Rattle.keys.specs.declared.parameters.Settled.{Settled}
+use Rattle.key_table.specs.declared.parameters.Settled.{Settled}
 use Rattle.login.specs.Login.{startText, answerOf, blockOf, named, joined, withGather, failText, finish, textStep, judgeStep, Outcome, Texted, accept, refuse, requestStep, kindStep, loginStep}
 use Rattle.login.specs.Code.{Joined, finishStep, withNames, blockResult, verdictAfter, textAfter, textOf, Written, undone, judgedBlock, judgedArea, areaOf, JudgedIn, foundStep, ReadAs, FoundAs}
 use Rattle.login.specs.Block.{judge, judgeBlock, Result, stopped, went, resultOf, countOf, JudgedAs}

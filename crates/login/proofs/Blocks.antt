@@ -8,10 +8,10 @@ use lib.ListN.{length, drop, length-drop}
 use Rattle.text.specs.Text.{pick}
 use Rattle.text.specs.Block.{nameIn, valueIn, pairs}
 use Rattle.text.proofs.Laws.{rest-at, some, none}
-use Rattle.keys.specs.Table.{keyOf}
+use Rattle.key_table.specs.Table.{keyOf}
 use Rattle.keys.specs.Judge.{after}
 use Rattle.keys.specs.Answer.{saidText}
-use Rattle.keys.specs.declared.parameters.Settled.{Settled}
+use Rattle.key_table.specs.declared.parameters.Settled.{Settled}
 use Rattle.login.specs.Block.{judge, judgeFirst, stopOf, Result, stopped}
 use Rattle.login.specs.declared.block.Stop.the-variants.{Goes, Stops}
 

@@ -17,10 +17,10 @@ use Rattle.request_header.specs.declared.Request.the-variants as R
 use Rattle.text.specs.Text.{pick}
 use Rattle.text.specs.Block.{Pair, formed, pairs}
 use Rattle.text.proofs.Laws.{&&-left, &&-right, &&-true, &&-false, false-true, past, here}
-use Rattle.keys.specs.Settle.{noneSeen, settling}
-use Rattle.keys.specs.Table.{standards, rows, rowAt, keyOf}
-use Rattle.keys.specs.declared.parameters.Settled.{Settled}
-use Rattle.keys.proofs.Ranges.{settled-in}
+use Rattle.key_values.specs.Settle.{noneSeen, settling}
+use Rattle.key_table.specs.Table.{standards, rows, rowAt, keyOf}
+use Rattle.key_table.specs.declared.parameters.Settled.{Settled}
+use Rattle.key_values.proofs.Ranges.{settled-in}
 use Rattle.login.specs.Block.{judge, Result, stopped, went}
 use Rattle.login.specs.Login.{Answer, refused, Outcome, Texted, refuse, fail, Check, checks, firstBroken, statusOf, permitted, joined, gatherStep, startText, named, accept, finish, textStep, withGather, judgeStep, requestStep, kindStep, readStep, loginStep, freshLogin}
 use Rattle.login.specs.Demand.{asks, accepted, Cause, check-broken, form-broken, pair-refused, names-lacking, blockIn, inForce, valueAfter, judgedOf, judgedIn, Promised, Call, stepOf, loginAfter, offersIn, taken, Demand}

@@ -11,14 +11,14 @@ use lib.Dec.{eqb}
 use Rattle.text.specs.Text.{pick}
 use Rattle.text.specs.Block.{Pair, nameIn, valueIn, restOf, goodFirst, formed, pairs, empty}
 use Rattle.text.proofs.Laws.{&&-left, &&-right, name-short}
-use Rattle.keys.specs.Table.{keyOf, kindAt, rowAt, known}
-use Rattle.keys.specs.Settle.{settling}
+use Rattle.key_table.specs.Table.{keyOf, kindAt, rowAt, known}
+use Rattle.key_values.specs.Settle.{settling}
 use Rattle.keys.specs.Judge.{judgeBy, stands, leadingOnly, judgeKey, judgeAt, after}
 use Rattle.keys.specs.Answer.{saidText}
-use Rattle.keys.specs.declared.value.Judgement.{Judgement}
-use Rattle.keys.specs.declared.value.Judgement.the-variants as J
-use Rattle.keys.specs.declared.parameters.Settled.{Settled}
-use Rattle.keys.proofs.Tables.{is-negotiated}
+use Rattle.key_values.specs.declared.value.Judgement.{Judgement}
+use Rattle.key_values.specs.declared.value.Judgement.the-variants as J
+use Rattle.key_table.specs.declared.parameters.Settled.{Settled}
+use Rattle.key_table.proofs.Tables.{is-negotiated}
 use Rattle.keys.proofs.Said.{said-length}
 use Rattle.login.specs.Block.{Result, stopped, went, stopOf, onward, judgePair, judge}
 use Rattle.login.specs.Demand.{inForce, taken, valueAfter}

@@ -7,12 +7,12 @@ use lib.ListN.{length, take}
 use Rattle.text.specs.Text.{Appended, pick}
 use Rattle.text.specs.Block.{nameIn, valueIn, goodFirst, formed, pairs}
 use Rattle.text.specs.Block as Text
-use Rattle.keys.specs.Table.{keyOf}
+use Rattle.key_table.specs.Table.{keyOf}
 use Rattle.keys.specs.Judge.{judgeAt, after}
 use Rattle.keys.specs.Answer.{saidText}
-use Rattle.keys.specs.declared.value.Judgement.{Judgement}
-use Rattle.keys.specs.declared.value.Judgement.the-variants as J
-use Rattle.keys.specs.declared.parameters.Settled.{Settled}
+use Rattle.key_values.specs.declared.value.Judgement.{Judgement}
+use Rattle.key_values.specs.declared.value.Judgement.the-variants as J
+use Rattle.key_table.specs.declared.parameters.Settled.{Settled}
 use Rattle.login.specs.declared.block.Stop.{Stop}
 use Rattle.login.specs.declared.block.Stop.the-variants.{Goes, Stops}
 use Rattle.login.specs.declared.block.First.{First}

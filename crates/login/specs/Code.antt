@@ -12,7 +12,7 @@ use Rattle.refusal.specs.declared.Refusal.the-variants as F
 use Rattle.request_header.specs.declared.Login.{Login}
 use Rattle.login.specs.declared.request.Found.{Found}
 use Rattle.login.specs.declared.request.Found.the-variants as N
-use Rattle.keys.specs.declared.parameters.Settled.{Settled}
+use Rattle.key_table.specs.declared.parameters.Settled.{Settled}
 use Rattle.login.specs.Login.{start, permitted, differs, ended, handle, stageAfter, settledLogin, joined, Outcome, refused, named, startText, requestStep, readStep, loginStep}
 use Rattle.login.specs.Block.{Result, stopped, went, judgeBlock, resultOf}
 use Rattle.login.specs.declared.block.Judged.{Judged}

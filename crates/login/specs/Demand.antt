@@ -13,12 +13,12 @@ use Rattle.request_header.specs.declared.Request.{Request}
 use Rattle.request_header.specs.declared.Request.the-variants as R
 use Rattle.text.specs.Text.{pick}
 use Rattle.text.specs.Block.{Pair, formed, pairs}
-use Rattle.keys.specs.Table.{keyOf, rowAt, standards}
-use Rattle.keys.specs.Settle.{settling, In}
-use Rattle.keys.specs.declared.value.Reply.{Reply}
-use Rattle.keys.specs.declared.value.Judgement.{Judgement}
-use Rattle.keys.specs.declared.value.Judgement.the-variants as J
-use Rattle.keys.specs.declared.parameters.Settled.{Settled}
+use Rattle.key_table.specs.Table.{keyOf, rowAt, standards}
+use Rattle.key_values.specs.Settle.{settling, In}
+use Rattle.key_values.specs.declared.value.Reply.{Reply}
+use Rattle.key_values.specs.declared.value.Judgement.{Judgement}
+use Rattle.key_values.specs.declared.value.Judgement.the-variants as J
+use Rattle.key_table.specs.declared.parameters.Settled.{Settled}
 use Rattle.login.specs.Block.{judge, judgePair, Result, stopped, went}
 use Rattle.login.specs.Login.{joined, Answer, refused, answered, Outcome, Check, checks, permitted, startText, named, loginStep, freshLogin}
 use Rattle.login.specs.declared.state.State.{State}

@@ -13,8 +13,8 @@ use Rattle.request_header.specs.declared.Request.{Request}
 use Rattle.request_header.specs.declared.Request.the-variants as R
 use Rattle.text.specs.Text.{pick, bytes}
 use Rattle.text.specs.Block.{formed, pairs}
-use Rattle.keys.specs.Settle.{noneSeen}
-use Rattle.keys.specs.declared.parameters.Settled.{Settled}
+use Rattle.key_table.specs.Table.{noneSeen}
+use Rattle.key_table.specs.declared.parameters.Settled.{Settled}
 use Rattle.login.specs.Block.{judge, Result, stopped, went}
 use Rattle.login.specs.declared.state.State.{State}
 use Rattle.login.specs.declared.state.Accepted.{Accepted}

@@ -5,7 +5,7 @@ use crate::state::Accepted;
 use crate::state::Answer;
 use crate::state::State;
 use crate::state::Step;
-use keys::parameters::Settled;
+use key_table::parameters::Settled;
 use refusal::Refusal;
 use request_header::Login;
 ghost use mathlib.Core.Path.{_≡_};

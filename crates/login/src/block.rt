@@ -2,10 +2,10 @@
 use keys::answer::put_said;
 use keys::judge::judge_pair;
 use keys::judge::settle_pair;
-use keys::parameters::Settled;
-use keys::table::KNOWN;
-use keys::table::key_of;
-use keys::value::Judgement;
+use key_table::parameters::Settled;
+use key_table::table::KNOWN;
+use key_table::table::key_of;
+use key_values::value::Judgement;
 use text::block::MAX_PAIRS;
 use text::block::cut_pair;
 use text::block::name_good;

@@ -6,7 +6,7 @@ use crate::state::Answer;
 use crate::state::State;
 use crate::state::Step;
 use crate::verdict::judge_text;
-use keys::parameters::Settled;
+use key_table::parameters::Settled;
 use request_header::Login;
 use text::slice::append;
 ghost use mathlib.Core.Path.{_≡_};

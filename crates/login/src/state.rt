@@ -1,5 +1,5 @@
 // A login: what it keeps from request to request, and what a request is answered.
-use keys::parameters::Settled;
+use key_table::parameters::Settled;
 use refusal::Refusal;
 ghost use mathlib.Core.Path.{_≡_};
 ghost use Rattle.login.specs.Login.{freshLogin};

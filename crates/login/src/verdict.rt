@@ -2,8 +2,8 @@
 use crate::block::Judged;
 use crate::block::Verdict;
 use crate::block::judge_block;
-use keys::parameters::Parameters;
-use keys::parameters::Settled;
+use key_table::parameters::Parameters;
+use key_table::parameters::Settled;
 use text::slice::append;
 ghost use mathlib.Core.Path.{_≡_};
 ghost use mathlib.Core.Bool.{_||_};

@@ -3,7 +3,7 @@
 // A line is eleven numbers and a text: bytes 0 and 1 of the PDU, Version-min, ISID, TSIH, CID, the live session's handle, the new handle,
 // the lengths of the lent gather area and text output, and how many bytes are cut off the PDU. In the text | stands for a zero byte.
 // "login" begins a login, "params" writes the parameters in force, and other lines are copied.
-use keys::parameters::Parameters;
+use key_table::parameters::Parameters;
 use libc::STDIN_FILENO;
 use libc::STDOUT_FILENO;
 use login::request::login_request;

@@ -12,7 +12,7 @@ use Rattle.request_header.specs.declared.Request.{Request}
 use Rattle.request_header.specs.declared.Request.the-variants as Q
 use Rattle.request_header.specs.Request.{limits, readPdu, got, refused, framed, fieldsOk, known, opcodeOf, requestOf, pduOf, nopOutOf, scsiCommandOf, taskManagementOf, loginOf, logoutOf, snackOf}
 use Rattle.request_header.proofs.FieldRules.{framed-read, framed-known, known-last, and-true}
-use Rattle.session.specs.Book.{isOffered, offeredAs, denied, atOnce, numbered, askedBy, asked, deniedRun}
+use Rattle.book.specs.Book.{isOffered, offeredAs, denied, atOnce, numbered, askedBy, asked, deniedRun}
 
 module _ (s : List ℕ) where
   last-two : (a b : Bool) → false ≡ a && isOffered (pick b (Q.Login (loginOf s)) (Q.Snack (snackOf s)))

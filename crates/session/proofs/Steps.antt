@@ -25,7 +25,7 @@ use Rattle.ledger.specs.declared.Ledger.{Ledger}
 use Rattle.session.specs.declared.Session.{Session}
 use Rattle.session.specs.declared.connection.Closes.{Closes}
 use Rattle.session.specs.declared.connection.Closes.the-variants as C
-use Rattle.session.specs.Book.{Offered, denied, atOnce, numbered, Connection, closed, live, Book, Call, offer, take, logout, opening, send, acknowledge, snack, resend, Answer, refused, immediate, opened, window, sent, acknowledged, run, resent, Step, step, connOf, withWindow, withConn, byWindow, onOpen, onConnection, lending, offerBy, offeredAs, connsLeft, loggedOut, logoutBy, openAt, sendAs, sendBy, acknowledgeBy, runStep, Asked, asked, deniedRun, from, snackBy, shown, resendBy, isOffered, cmdSN, cmdSNOf, bookStep}
+use Rattle.book.specs.Book.{Offered, denied, atOnce, numbered, Connection, closed, live, Book, Call, offer, take, logout, opening, send, acknowledge, snack, resend, Answer, refused, immediate, opened, window, sent, acknowledged, run, resent, Step, step, connOf, withWindow, withConn, byWindow, onOpen, onConnection, lending, offerBy, offeredAs, connsLeft, loggedOut, logoutBy, openAt, sendAs, sendBy, acknowledgeBy, runStep, Asked, asked, deniedRun, from, snackBy, shown, resendBy, isOffered, cmdSN, cmdSNOf, bookStep}
 use Rattle.session.specs.Agree.{State, state, noLedger, ledgerOf, ConnAgrees, Agrees, MeetsAt, lent, Changes, WindowStays, Stays, Did, IsOpen, withLedger, Closing, shut, closing, LeavesConns}
 
 -- ---- from the book's step, known whole

@@ -7,11 +7,12 @@ use denote.Ref.{now}
 use contract.Lifetimes
 use borrow.Fn.Kinds as K
 use denote.Triple.Clauses.{AtExit}
-use Rattle.session.specs.Book.{Call, offer, take, logout, opening, send, acknowledge, snack, resend, windowNumbers, Answer, numbers, freshBook}
+use Rattle.book.specs.Book.{Call, offer, take, logout, opening, send, acknowledge, snack, resend, windowNumbers, Answer, numbers, freshBook}
 use Rattle.session.specs.Agree.{State, Did, state, offerAnswer, afterOffer, takeAnswer, afterTake, logoutAnswer, afterLogout, openAnswer, afterOpen, sendAnswer, afterSend, acknowledgeAnswer, afterAcknowledge, snackAnswer, resendAnswer}
-use Rattle.session.specs.History.{Event, event, Ran, Booked, history, callsOf}
-use Rattle.session.specs.Demand.{Demand3}
-use Rattle.session.proofs.Sentences.{demand3-booked}
+use Rattle.session.specs.History.{Ran, Booked, history}
+use Rattle.book.specs.Events.{Event, event, callsOf}
+use Rattle.book.specs.Demand.{Demand3}
+use Rattle.book.proofs.Sentences.{demand3-booked}
 use Rattle.session.proofs.fresh.Reads as fresh-r
 use Rattle.session.proofs.fresh.Kinds as fresh-k
 use Rattle.session.proofs.command.offer.Reads as offer-r

@@ -14,7 +14,7 @@ use Rattle.window.specs.Book as W
 use Rattle.ledger.specs.Agree as LA
 use Rattle.ledger.specs.declared.Ledger.{Ledger}
 use Rattle.window.specs.declared.Window.{Window}
-use Rattle.session.specs.Book.{connections, Connection, closed, live, Book, freshBook, Call, offer, take, logout, opening, send, acknowledge, snack, resend, windowNumbers, Answer, refused, immediate, opened, window, sent, acknowledged, run, resent, numbers, cmdSN, bookStep, Offered, denied, atOnce, numbered, Asked, deniedRun, from}
+use Rattle.book.specs.Book.{connections, Connection, closed, live, Book, freshBook, Call, offer, take, logout, opening, send, acknowledge, snack, resend, windowNumbers, Answer, refused, immediate, opened, window, sent, acknowledged, run, resent, numbers, cmdSN, bookStep, Offered, denied, atOnce, numbered, Asked, deniedRun, from}
 use Rattle.session.specs.declared.Session.{Session}
 use Rattle.session.specs.declared.FreshSession.{FreshSession}
 use Rattle.session.specs.declared.connection.Reached.{Reached}

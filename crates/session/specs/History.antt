@@ -2,33 +2,9 @@
 use Prim.Native.Nat.{ℕ}
 use mathlib.Core.Path.{_≡_, refl, ap₂}
 use mathlib.Core.List.{List, [], _∷_}
-use Rattle.session.specs.Book.{Book, Call, Answer, bookStep}
+use Rattle.book.specs.Book.{Book, Call, Answer, bookStep}
+use Rattle.book.specs.Events.{Event, event, callsOf, booked, bookRun, bookAfter}
 use Rattle.session.specs.Agree.{State, Agrees, Did}
-
--- A call with "its whole result and the header it writes": the answer, and the lent output after it.
-pub record Event : Type 0 where
-  pub call : Call
-  pub answer : Answer
-  pub bytes : List ℕ
-
-abbrev pub event : Call → Answer → List ℕ → Event
-event c a o = record { call = c; answer = a; bytes = o }
-
-unfoldable pub callsOf : List Event → List Call
-callsOf [] = []
-callsOf (e ∷ es) = e .call ∷ callsOf es
-
--- What the book answers to a call, and to a list of calls; and the book after them.
-unfoldable pub booked : Book → Call → Event
-booked b c = event c (bookStep b c .answer) (bookStep b c .bytes)
-
-unfoldable pub bookRun : Book → List Call → List Event
-bookRun b [] = []
-bookRun b (c ∷ cs) = booked b c ∷ bookRun (bookStep b c .book) cs
-
-unfoldable pub bookAfter : Book → List Call → Book
-bookAfter b [] = b
-bookAfter b (c ∷ cs) = bookAfter (bookStep b c .book) cs
 
 -- Calls one after the other from a state to a state, each as its contract says; the events stand in the order of the calls.
 pub data Ran : State → List Event → State → Type 0 where

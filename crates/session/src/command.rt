@@ -24,7 +24,7 @@ ghost use mathlib.Core.Bool.{_&&_};
 ghost use Prim.Native.Nat.{ℕ, _≤_};
 ghost use lib.ListN.{length};
 ghost use Rattle.request_header.specs.Request.{limits, readPdu, fieldsOk, requestOf};
-ghost use Rattle.session.specs.Book.{Call, isOffered, offeredAs};
+ghost use Rattle.book.specs.Book.{Call, isOffered, offeredAs};
 ghost use Rattle.session.specs.Agree.{Did, state, offeredOf, offerAnswer, afterOffer, takeAnswer, afterTake};
 
 // What an offered PDU is.

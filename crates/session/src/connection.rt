@@ -6,7 +6,7 @@ use window::Window;
 ghost use mathlib.Core.Path.{_≡_};
 ghost use mathlib.Core.List.{List, []};
 ghost use Prim.Native.Nat.{ℕ};
-ghost use Rattle.session.specs.Book.{Call};
+ghost use Rattle.book.specs.Book.{Call};
 ghost use Rattle.session.specs.Agree.{Did, state, Reaches, ReachesAt, Closing, openAnswer, afterOpen, logoutAnswer, afterLogout};
 
 // The connection that a call names.

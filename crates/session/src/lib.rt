@@ -16,7 +16,7 @@ use window::WINDOW_SLOTS;
 use window::Window;
 ghost use mathlib.Core.List.{List, []};
 ghost use Prim.Native.Nat.{ℕ};
-ghost use Rattle.session.specs.Book.{Call, Answer};
+ghost use Rattle.book.specs.Book.{Call, Answer};
 ghost use Rattle.session.specs.Agree.{Did, IsFresh, state};
 
 pub struct Session {

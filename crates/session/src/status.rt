@@ -24,7 +24,7 @@ ghost use Prim.Native.Nat.{ℕ, _≤_};
 ghost use lib.ListN.{length};
 ghost use Rattle.request_header.specs.declared.Request.the-variants as Request;
 ghost use Rattle.request_header.specs.Request.{limits, readPdu, requestOf, snackOf, opcodeOf};
-ghost use Rattle.session.specs.Book.{Call, askedBy, asked};
+ghost use Rattle.book.specs.Book.{Call, askedBy, asked};
 ghost use Rattle.session.specs.Agree.{Did, state, askedOf, sendAnswer, afterSend, acknowledgeAnswer, afterAcknowledge, snackAnswer, resendAnswer};
 
 pub enum SendAnswer {

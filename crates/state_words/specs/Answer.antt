@@ -4,7 +4,7 @@ use mathlib.Core.Path.{_≡_}
 use mathlib.Core.List.{List, [], _∷_}
 use lib.ListN.{replicate}
 use Rattle.window.specs.Book as W
-use Rattle.session.specs.Book.{Call, send, Answer, freshBook, refused, immediate, opened, window, sent, acknowledged, run, resent, numbers}
+use Rattle.book.specs.Book.{Call, send, Answer, freshBook, refused, immediate, opened, window, sent, acknowledged, run, resent, numbers}
 use Rattle.session.specs.Agree.{State, Did, Agrees}
 use Rattle.words.specs.declared.response.Made.{Made}
 use Rattle.words.specs.declared.response.Made.the-variants.{Known, Unknown}

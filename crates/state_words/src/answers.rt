@@ -8,7 +8,7 @@ use window::Origin;
 use window::Taken;
 ghost use mathlib.Core.Path.{_≡_};
 ghost use mathlib.Core.List.{[], _∷_};
-ghost use Rattle.session.specs.Book.{Answer};
+ghost use Rattle.book.specs.Book.{Answer};
 ghost use Rattle.session.specs.Agree.{snackAnswer, resendAnswer};
 ghost use Rattle.refusal.specs.Refusal.{number};
 ghost use Rattle.window.specs.Agree.{originOf};

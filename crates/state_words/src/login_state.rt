@@ -1,6 +1,6 @@
 // A login between requests, and its answer: eight numbers, its settled values and which keys came.
-use keys::parameters::Parameters;
-use keys::parameters::Settled;
+use key_table::parameters::Parameters;
+use key_table::parameters::Settled;
 use login::state::Answer;
 use login::state::State;
 use refusal::number_of;

@@ -9,8 +9,8 @@ use lib.ListN.{getD}
 use Rattle.ledger.specs.Book as L
 use Rattle.ledger.specs.Agree as LA
 use Rattle.ledger.specs.declared.Ledger.{Ledger}
-use Rattle.session.specs.Book as B
-use Rattle.session.specs.Book.{freshBook}
+use Rattle.book.specs.Book as B
+use Rattle.book.specs.Book.{freshBook}
 use Rattle.session.specs.Agree.{ConnAgrees, ledgerOf, noLedger}
 use Rattle.session.proofs.fresh.Statement.{statement}
 use Rattle.session.proofs.fresh.Tie as tie

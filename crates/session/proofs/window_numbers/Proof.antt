@@ -3,8 +3,8 @@ use Prim.Native.Nat.{ℕ, _-_}
 use mathlib.Core.Path.{refl, sym, ap₂}
 use mathlib.Core.List.{[]}
 use borrow.Author.Needs.{needs}
-use Rattle.session.specs.Book as B
-use Rattle.session.specs.Book.{bookStep, step}
+use Rattle.book.specs.Book as B
+use Rattle.book.specs.Book.{bookStep, step}
 use Rattle.session.proofs.Steps.{met}
 use Rattle.session.proofs.window_numbers.Statement.{statement}
 use Rattle.session.proofs.window_numbers.Tie as tie

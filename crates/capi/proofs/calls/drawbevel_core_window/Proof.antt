@@ -1,4 +1,4 @@
-use Rattle.session.specs.Book.{numbers}
+use Rattle.book.specs.Book.{numbers}
 use borrow.Author.Needs.{needs}
 use Rattle.capi.proofs.calls.drawbevel_core_window.Statement.{statement}
 use Rattle.capi.proofs.calls.drawbevel_core_window.Tie as tie

@@ -1,5 +1,5 @@
 -- The kind that was told is that of key k, and only the first twelve keys are of the kinds that a row settles.
-use Rattle.keys.proofs.Tables.{code, in-table}
+use Rattle.key_table.proofs.Tables.{code, in-table}
 use borrow.Author.Tests.{leb-true}
 use mathlib.Core.Path.{refl}
 use Rattle.keys.proofs.judge.judge_value.Statement.{statement}

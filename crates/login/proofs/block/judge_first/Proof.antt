@@ -2,7 +2,7 @@
 use Rattle.text.specs.Text.{bytes}
 use Rattle.text.specs.Block.{nameIn, valueIn, goodFirst, wholeFirst, goodName}
 use Rattle.text.proofs.Laws.{good-first, cut-value, cut-start, name-short, false-true, &&-right}
-use Rattle.keys.specs.Table.{keyOf}
+use Rattle.key_table.specs.Table.{keyOf}
 use Rattle.keys.specs.Judge.{judgeAt, settledOf}
 use Rattle.keys.specs.Answer.{answerText}
 use Rattle.keys.proofs.Said.{said-length}

@@ -1,8 +1,8 @@
 -- The form is good if the rest of it is and the name's is; that of a known key's name is.
 use Rattle.text.specs.Block.{nameIn, goodName, goodFirst, wholeFirst}
 use Rattle.text.proofs.Laws.{good-first, cut-name, &&-false, &&-true, false-true}
-use Rattle.keys.specs.Table.{keyOf}
-use Rattle.keys.proofs.Tables.{known-formed}
+use Rattle.key_table.specs.Table.{keyOf}
+use Rattle.key_table.proofs.Tables.{known-formed}
 use lib.Seq.{length-take-le}
 use mathlib.Core.Path.{_≡_, sym, ap, _∙_}
 use mathlib.Core.Bool.{true, false}

@@ -4,7 +4,7 @@ use borrow.Author.Needs.{needs}
 use borrow.Author.Tests.{not-true, not-false}
 use Rattle.request_header.specs.Request.{limits}
 use Rattle.request_header.proofs.FieldRules.{says, read-short, refusal-framed}
-use Rattle.session.specs.Book.{offeredAs}
+use Rattle.book.specs.Book.{offeredAs}
 use Rattle.session.proofs.Requests.{offered-as}
 use Rattle.session.proofs.command.read_offer.Statement.{statement}
 use Rattle.session.proofs.command.read_offer.Tie as tie

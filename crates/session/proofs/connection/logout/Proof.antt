@@ -4,8 +4,8 @@ use mathlib.Core.Path.{refl, sym, ap, _∙_}
 use mathlib.Core.List.{[]}
 use borrow.Author.Needs.{needs}
 use Rattle.window.specs.Book as W
-use Rattle.session.specs.Book as B
-use Rattle.session.specs.Book.{bookStep, step, loggedOut}
+use Rattle.book.specs.Book as B
+use Rattle.book.specs.Book.{bookStep, step, loggedOut}
 use Rattle.session.proofs.Steps.{met, refusing, reach-none, reach-closed, open-at, reach-open, logout-eq, closing-leaves, left-agrees, logout-field, logout-done}
 use Rattle.session.proofs.connection.logout.Statement.{statement}
 use Rattle.session.proofs.connection.logout.Tie as tie

@@ -3,7 +3,7 @@ use mathlib.Core.Path.{_≡_, refl, sym, ap, _∙_}
 use borrow.Author.Needs.{needs}
 use Rattle.request_header.specs.Request.{limits}
 use Rattle.request_header.proofs.FieldRules.{says, read-short, refusal-framed}
-use Rattle.session.specs.Book.{asked}
+use Rattle.book.specs.Book.{asked}
 use Rattle.session.proofs.Requests.{not-asked, snack-asked}
 use Rattle.session.proofs.status.read_snack.Statement.{statement}
 use Rattle.session.proofs.status.read_snack.Tie as tie

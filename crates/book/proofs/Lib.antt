@@ -1,0 +1,5 @@
+pub mod Small
+pub mod PastWindow
+pub mod PastConns
+pub mod Sentences
+pub mod Starred

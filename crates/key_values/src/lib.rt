@@ -1,0 +1,2 @@
+// The value of a key of the table.
+pub mod value;
