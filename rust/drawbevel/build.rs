@@ -1,12 +1,14 @@
-//! Makes the proved static library, `target/staticlib/libcapi.a`, by `rt staticlib capi`, unless one stands there that is
-//! newer than every source of the proved crates. `DRAWBEVEL_STATICLIB` names one to take as it is.
+//! Makes the proved static library, `target/staticlib/libcapi.a`, by `rt staticlib capi`, unless the one that stands there was made of
+//! these very sources. `DRAWBEVEL_STATICLIB` names one to take as it is.
 
+use std::hash::{DefaultHasher, Hasher};
 use std::path::{Path, PathBuf};
 use std::process::Command;
-use std::time::SystemTime;
 use std::{env, fs};
 
 const ARCHIVE: &str = "libcapi.a";
+/// Beside the archive: the digest of the sources that it was made of.
+const SOURCES: &str = "libcapi.sources";
 
 fn main() {
     println!("cargo::rerun-if-env-changed=DRAWBEVEL_STATICLIB");
@@ -28,43 +30,62 @@ fn main() {
     println!("cargo::rustc-link-lib=static=capi");
 }
 
-/// The folder of an archive that is up to date.
+/// The folder of an archive that is made of the sources as they stand.
 fn made(root: &Path) -> PathBuf {
     let crates = root.join("crates");
-    println!("cargo::rerun-if-changed={}", crates.display());
-    println!(
-        "cargo::rerun-if-changed={}",
-        root.join("crates.txt").display()
-    );
+    let list = root.join("crates.txt");
     let folder = root.join("target/staticlib");
     let archive = folder.join(ARCHIVE);
-    println!("cargo::rerun-if-changed={}", archive.display());
-    let newest = newest(&crates);
-    let is_new = |made: SystemTime| newest.is_none_or(|source| source <= made);
-    let made = fs::metadata(&archive).and_then(|file| file.modified());
-    if !made.is_ok_and(is_new) {
+    let stamp = folder.join(SOURCES);
+    for file in [&crates, &list, &archive, &stamp] {
+        println!("cargo::rerun-if-changed={}", file.display());
+    }
+    let digest = digest_of(root, &list, &crates);
+    let is_of_these = fs::read_to_string(&stamp).is_ok_and(|of| of == digest);
+    if !(is_of_these && archive.exists()) {
+        // An archive that fails to be made anew must not pass for one of these sources later.
+        let _ = fs::remove_file(&stamp);
         prove(root);
+        if let Err(error) = fs::write(&stamp, digest) {
+            fail(&format!("cannot write {}: {error}", stamp.display()));
+        }
     }
     folder
 }
 
-/// The time of the newest source of the crates: what is proved and how, not what programs print or edits that must fail.
-fn newest(folder: &Path) -> Option<SystemTime> {
-    let mut newest = None;
-    for entry in fs::read_dir(folder).ok()?.flatten() {
-        let path = entry.path();
-        let time = if path.is_dir() {
-            self::newest(&path)
-        } else {
-            let source = path
-                .extension()
-                .is_some_and(|kind| kind == "rt" || kind == "antt");
-            let changed = entry.metadata().and_then(|file| file.modified());
-            changed.ok().filter(|_| source)
-        };
-        newest = newest.max(time);
+/// A digest of the list of crates and of the names and contents of all that is proved, not of what programs print or of edits that
+/// must fail.
+fn digest_of(root: &Path, list: &Path, crates: &Path) -> String {
+    let mut files = vec![list.to_owned()];
+    sources(crates, &mut files);
+    files.sort();
+    let mut digest = DefaultHasher::new();
+    for file in files {
+        let content = fs::read(&file)
+            .unwrap_or_else(|error| fail(&format!("cannot read {}: {error}", file.display())));
+        let name = file.strip_prefix(root).unwrap_or(&file);
+        digest.write(name.to_string_lossy().as_bytes());
+        digest.write_usize(content.len());
+        digest.write(&content);
     }
-    newest
+    format!("{:016x}\n", digest.finish())
+}
+
+fn sources(folder: &Path, files: &mut Vec<PathBuf>) {
+    let Ok(entries) = fs::read_dir(folder) else {
+        return;
+    };
+    for entry in entries.flatten() {
+        let path = entry.path();
+        let is_source = path
+            .extension()
+            .is_some_and(|kind| kind == "rt" || kind == "antt");
+        if path.is_dir() {
+            sources(&path, files);
+        } else if is_source {
+            files.push(path);
+        }
+    }
 }
 
 fn prove(root: &Path) {

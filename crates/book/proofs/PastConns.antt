@@ -15,18 +15,21 @@ use Rattle.ledger.specs.Book as L
 use Rattle.ledger.proofs.Laws.{lookup-past, lookup-end, lookup-front, lookup-drop, oldest-sent, oldest-released, oldest-lt}
 use Rattle.book.proofs.Small.{all-closed}
 use Rattle.book.proofs.PastWindow.{same-true, same-false}
-use Rattle.book.specs.Book.{Connection, closed, live, connsLeft}
-use Rattle.book.specs.Notions.{Effect, keeps, handsOut, logsOut, opens, sends, acknowledges, nothing, same, isOpen, precedes, lastSent, acknowledgedSince}
+use Rattle.book.specs.declared.Opening.{Opening}
+use Rattle.book.specs.Book.{OpenConnection, withLedger, openedBy, Connection, closed, live, connsLeft}
+use Rattle.book.specs.Effects.{ConnectionEffect, opens, closes, sends, acknowledges}
+use Rattle.book.specs.Commands.{same}
+use Rattle.book.specs.Statuses.{isOpen, precedes, lastSent, acknowledgedSince}
 
 -- the last status sent under n on c since its latest opening, if it was not acknowledged since
-unfoldable pub statusIn : List Effect → ℕ → ℕ → L.Found
+unfoldable pub statusIn : List ConnectionEffect → ℕ → ℕ → L.Found
 statusIn ds c n = pick (acknowledgedSince ds c n) L.missing (lastSent ds c n)
 
-status-opens : (ds : List Effect) (c n : ℕ) → statusIn (opens c ∷ ds) c n ≡ L.missing
+status-opens : (ds : List ConnectionEffect) (c : ℕ) (o : Opening) (n : ℕ) → statusIn (opens c o ∷ ds) c n ≡ L.missing
 unfolding statusIn acknowledgedSince lastSent
-status-opens ds c n = rw (eq-eqb c c refl)
+status-opens ds c o n = rw (eq-eqb c c refl)
 
-status-sends : (ds : List Effect) (c m t : ℕ) (h : List ℕ) (n : ℕ)
+status-sends : (ds : List ConnectionEffect) (c m t : ℕ) (h : List ℕ) (n : ℕ)
     → statusIn (sends c m t h ∷ ds) c n ≡ pick (same n m) (L.found (record { header = h; ticket = t })) (statusIn ds c n)
 unfolding statusIn acknowledgedSince lastSent
 status-sends ds c m t h n = rw (eq-eqb c c refl) (go (same n m))
@@ -36,7 +39,7 @@ status-sends ds c m t h n = rw (eq-eqb c c refl) (go (same n m))
     go true = refl
     go false = refl
 
-status-acknowledges : (ds : List Effect) (c x n : ℕ) → statusIn (acknowledges c x ∷ ds) c n ≡ pick (precedes n x) L.missing (statusIn ds c n)
+status-acknowledges : (ds : List ConnectionEffect) (c x n : ℕ) → statusIn (acknowledges c x ∷ ds) c n ≡ pick (precedes n x) L.missing (statusIn ds c n)
 unfolding statusIn acknowledgedSince lastSent
 status-acknowledges ds c x n = rw (eq-eqb c c refl) (go (precedes n x) (acknowledgedSince ds c n))
   where
@@ -44,40 +47,35 @@ status-acknowledges ds c x n = rw (eq-eqb c c refl) (go (precedes n x) (acknowle
     go true v = refl
     go false v = refl
 
-pub record LiveOk (ds : List Effect) (c : ℕ) (q : L.LedgerBook) : Type 0 where
+pub record LiveOk (ds : List ConnectionEffect) (c : ℕ) (q : L.LedgerBook) : Type 0 where
   pub open-now : isOpen ds c ≡ true
   pub fits : q .next < 2 ^ 32
   pub few : length (q .held) ≤ 32
   pub status : (n : ℕ) → statusIn ds c n ≡ L.statusOf q n
 
-unfoldable pub ConnIs : List Effect → ℕ → Connection → Type 0
+unfoldable pub ConnIs : List ConnectionEffect → ℕ → Connection → Type 0
 ConnIs ds c closed = isOpen ds c ≡ false
-ConnIs ds c (live q) = LiveOk ds c q
+ConnIs ds c (live k) = LiveOk ds c (k .ledger)
 
-pub record ConnInv (ds : List Effect) (k : List Connection) : Type 0 where
+pub record ConnInv (ds : List ConnectionEffect) (k : List Connection) : Type 0 where
   pub four : length k ≡ 4
   pub near : (c : ℕ) → isOpen ds c ≡ true → c < 4
   pub each : (c : ℕ) → c < 4 → ConnIs ds c (getD k c closed)
 
 -- from one history to another that says the same of c
-carry : (ds ds' : List Effect) (c : ℕ) (k : Connection) → isOpen ds' c ≡ isOpen ds c → ((n : ℕ) → statusIn ds' c n ≡ statusIn ds c n) → ConnIs ds c k → ConnIs ds' c k
+carry : (ds ds' : List ConnectionEffect) (c : ℕ) (k : Connection) → isOpen ds' c ≡ isOpen ds c → ((n : ℕ) → statusIn ds' c n ≡ statusIn ds c n) → ConnIs ds c k → ConnIs ds' c k
 unfolding ConnIs
 carry ds ds' c closed p s i = p ∙ i
-carry ds ds' c (live q) p s i = record { open-now = p ∙ i .open-now; fits = i .fits; few = i .few; status = λ n. s n ∙ i .status n }
+carry ds ds' c (live k) p s i = record { open-now = p ∙ i .open-now; fits = i .fits; few = i .few; status = λ n. s n ∙ i .status n }
 
-pub data Still : Effect → Type 0 where
-  s-keeps : (m c t : ℕ) (h : List ℕ) → Still (keeps m c t h)
-  s-handsOut : (m : ℕ) → Still (handsOut m)
-  s-nothing : Still nothing
-
-pub conn-still : {d : Effect} {ds : List Effect} {k : List Connection} → Still d → ConnInv ds k → ConnInv (d ∷ ds) k
+-- a call that does nothing to a connection
+pub conn-still : {ds : List ConnectionEffect} {k : List Connection} → ConnInv ds k → ConnInv (ConnectionEffect.none ∷ ds) k
 unfolding isOpen statusIn acknowledgedSince lastSent
-conn-still {ds = ds} {k = k} (s-keeps m c t h) i = record { four = i .four; near = i .near; each = λ j l. carry ds (keeps m c t h ∷ ds) j (getD k j closed) refl (λ n. refl) (i .each j l) }
-conn-still {ds = ds} {k = k} (s-handsOut m) i = record { four = i .four; near = i .near; each = λ j l. carry ds (handsOut m ∷ ds) j (getD k j closed) refl (λ n. refl) (i .each j l) }
-conn-still {ds = ds} {k = k} s-nothing i = record { four = i .four; near = i .near; each = λ j l. carry ds (nothing ∷ ds) j (getD k j closed) refl (λ n. refl) (i .each j l) }
+conn-still {ds = ds} {k = k} i =
+    record { four = i .four; near = i .near; each = λ j l. carry ds (ConnectionEffect.none ∷ ds) j (getD k j closed) refl (λ n. refl) (i .each j l) }
 
 -- one connection changed
-change : (d : Effect) (ds : List Effect) (k : List Connection) (c : ℕ) (x : Connection) → ConnInv ds k → c < 4 → ConnIs (d ∷ ds) c x
+change : (d : ConnectionEffect) (ds : List ConnectionEffect) (k : List Connection) (c : ℕ) (x : Connection) → ConnInv ds k → c < 4 → ConnIs (d ∷ ds) c x
     → ((j : ℕ) → (j ≡ c → ⊥) → isOpen (d ∷ ds) j ≡ isOpen ds j) → ((j n : ℕ) → (j ≡ c → ⊥) → statusIn (d ∷ ds) j n ≡ statusIn ds j n) → ConnInv (d ∷ ds) (set k c x)
 change d ds k c x i l h p s = record { four = length-set k c x ∙ i .four; near = λ j o. low j o (ℕ-discrete j c); each = λ j lj. go j lj (ℕ-discrete j c) }
   where
@@ -89,21 +87,21 @@ change d ds k c x i l h p s = record { four = length-set k c x ∙ i .four; near
     go j lj (yes q) = rw (q, getD-set-same k c x closed (omega (arith, i .four))) h
     go j lj (no q) = rw (getD-set-other k c j x closed q) (carry ds (d ∷ ds) j (getD k j closed) (p j q) (λ n. s j n q) (i .each j lj))
 
-pub conn-open : (ds : List Effect) (k : List Connection) (c n : ℕ) → ConnInv ds k → c < 4 → ConnInv (opens c ∷ ds) (set k c (live (L.freshLedger n)))
-conn-open ds k c n i l = change (opens c) ds k c (live (L.freshLedger n)) i l here other-open other-status
+pub conn-open : (ds : List ConnectionEffect) (k : List Connection) (c : ℕ) (o : Opening) → ConnInv ds k → c < 4 → ConnInv (opens c o ∷ ds) (set k c (live (openedBy o)))
+conn-open ds k c o i l = change (opens c o) ds k c (live (openedBy o)) i l here other-open other-status
   where
-    here : ConnIs (opens c ∷ ds) c (live (L.freshLedger n))
+    here : ConnIs (opens c o ∷ ds) c (live (openedBy o))
     here = unfold ConnIs in (record {
       open-now = unfold isOpen in (rw (eq-eqb c c refl));
-      fits = unfold L.freshLedger in (omega arith);
-      few = unfold L.freshLedger in (omega arith);
-      status = λ m. status-opens ds c m ∙ unfold L.statusOf in (unfold L.freshLedger in (unfold L.lookup in refl));
+      fits = unfold openedBy in (unfold L.freshLedger in (omega arith));
+      few = unfold openedBy in (unfold L.freshLedger in (omega arith));
+      status = λ m. status-opens ds c o m ∙ unfold L.statusOf in (unfold openedBy in (unfold L.freshLedger in (unfold L.lookup in refl)));
     })
 
-    other-open : (j : ℕ) → (j ≡ c → ⊥) → isOpen (opens c ∷ ds) j ≡ isOpen ds j
+    other-open : (j : ℕ) → (j ≡ c → ⊥) → isOpen (opens c o ∷ ds) j ≡ isOpen ds j
     other-open j q = unfold isOpen in (rw (ne-eqb j c q))
 
-    other-status : (j m : ℕ) → (j ≡ c → ⊥) → statusIn (opens c ∷ ds) j m ≡ statusIn ds j m
+    other-status : (j m : ℕ) → (j ≡ c → ⊥) → statusIn (opens c o ∷ ds) j m ≡ statusIn ds j m
     other-status j m q = unfold statusIn in (unfold acknowledgedSince in (unfold lastSent in (rw (ne-eqb j c q))))
 
 -- ---- a status sent
@@ -149,17 +147,20 @@ status-sent q s n l f = go (same n (q .next)) refl
     go false e =
         rw (e, same-place) (unfold L.sent in (split (L.place q n) (λ x. same-false n (q .next) e (place-next q n l (omega arith) x))))
 
-pub conn-send : (ds : List Effect) (k : List Connection) (c t : ℕ) (h : List ℕ) (q : L.LedgerBook) → ConnInv ds k → c < 4 → getD k c closed ≡ live q → length (q .held) < 32
-    → ConnInv (sends c (q .next) t h ∷ ds) (set k c (live (L.sent q (record { header = h; ticket = t }))))
-conn-send ds k c t h q i l e f = change (sends c (q .next) t h) ds k c (live (L.sent q s)) i l here other-open other-status
+pub conn-send : (ds : List ConnectionEffect) (k : List Connection) (c t : ℕ) (h : List ℕ) (x : OpenConnection) → ConnInv ds k → c < 4 → getD k c closed ≡ live x → length (x .ledger .held) < 32
+    → ConnInv (sends c (x .ledger .next) t h ∷ ds) (set k c (live (withLedger x (L.sent (x .ledger) (record { header = h; ticket = t })))))
+conn-send ds k c t h x i l e f = change (sends c (q .next) t h) ds k c (live (withLedger x (L.sent q s))) i l here other-open other-status
   where
+    q : L.LedgerBook
+    q = x .ledger
+
     s : L.Status
     s = record { header = h; ticket = t }
 
     was : LiveOk ds c q
     was = unfold ConnIs in (subst (ConnIs ds c) e (i .each c l))
 
-    here : ConnIs (sends c (q .next) t h ∷ ds) c (live (L.sent q s))
+    here : ConnIs (sends c (q .next) t h ∷ ds) c (live (withLedger x (L.sent q s)))
     here = unfold ConnIs in (record {
       open-now = unfold isOpen in (was .open-now);
       fits = unfold L.sent in (omega arith);
@@ -168,10 +169,10 @@ conn-send ds k c t h q i l e f = change (sends c (q .next) t h) ds k c (live (L.
     })
 
     other-open : (j : ℕ) → (j ≡ c → ⊥) → isOpen (sends c (q .next) t h ∷ ds) j ≡ isOpen ds j
-    other-open j x = unfold isOpen in refl
+    other-open j y = unfold isOpen in refl
 
     other-status : (j m : ℕ) → (j ≡ c → ⊥) → statusIn (sends c (q .next) t h ∷ ds) j m ≡ statusIn ds j m
-    other-status j m x = unfold statusIn in (unfold acknowledgedSince in (unfold lastSent in (rw (ne-eqb j c x))))
+    other-status j m y = unfold statusIn in (unfold acknowledgedSince in (unfold lastSent in (rw (ne-eqb j c y))))
 
 -- ---- an acknowledgement
 
@@ -252,14 +253,17 @@ status-released q x n l f g = go (decLt (L.place q n) (L.place q x))
         at (yes b) = rw (precedes-false q n x (omega arith) (omega arith))
         at (no b) = either (precedes n x) (L.lookup (q .held) (L.place q n)) (lookup-past (q .held) (L.place q n) (omega arith))
 
-pub conn-ack : (ds : List Effect) (k : List Connection) (c x : ℕ) (q : L.LedgerBook) → ConnInv ds k → c < 4 → getD k c closed ≡ live q → L.place q x ≤ length (q .held)
-    → ConnInv (acknowledges c x ∷ ds) (set k c (live (L.released q x)))
-conn-ack ds k c x q i l e g = change (acknowledges c x) ds k c (live (L.released q x)) i l here other-open other-status
+pub conn-ack : (ds : List ConnectionEffect) (k : List Connection) (c x : ℕ) (y : OpenConnection) → ConnInv ds k → c < 4 → getD k c closed ≡ live y
+    → L.place (y .ledger) x ≤ length (y .ledger .held) → ConnInv (acknowledges c x ∷ ds) (set k c (live (withLedger y (L.released (y .ledger) x))))
+conn-ack ds k c x y i l e g = change (acknowledges c x) ds k c (live (withLedger y (L.released q x))) i l here other-open other-status
   where
+    q : L.LedgerBook
+    q = y .ledger
+
     was : LiveOk ds c q
     was = unfold ConnIs in (subst (ConnIs ds c) e (i .each c l))
 
-    here : ConnIs (acknowledges c x ∷ ds) c (live (L.released q x))
+    here : ConnIs (acknowledges c x ∷ ds) c (live (withLedger y (L.released q x)))
     here = unfold ConnIs in (record {
       open-now = unfold isOpen in (was .open-now);
       fits = unfold L.released in (was .fits);
@@ -268,16 +272,16 @@ conn-ack ds k c x q i l e g = change (acknowledges c x) ds k c (live (L.released
     })
 
     other-open : (j : ℕ) → (j ≡ c → ⊥) → isOpen (acknowledges c x ∷ ds) j ≡ isOpen ds j
-    other-open j y = unfold isOpen in refl
+    other-open j z = unfold isOpen in refl
 
     other-status : (j m : ℕ) → (j ≡ c → ⊥) → statusIn (acknowledges c x ∷ ds) j m ≡ statusIn ds j m
-    other-status j m y = unfold statusIn in (unfold acknowledgedSince in (unfold lastSent in (rw (ne-eqb j c y))))
+    other-status j m z = unfold statusIn in (unfold acknowledgedSince in (unfold lastSent in (rw (ne-eqb j c z))))
 
 -- ---- a logout
 
-pub conn-logs : (ds : List Effect) (k : List Connection) (c r e : ℕ) → ConnInv ds k → c < 4 → ConnInv (logsOut c r e ∷ ds) (connsLeft k c r)
+pub conn-logs : (ds : List ConnectionEffect) (k : List Connection) (c r : ℕ) → ConnInv ds k → c < 4 → ConnInv (closes c r ∷ ds) (connsLeft k c r)
 unfolding connsLeft isOpen
-conn-logs ds k c r e i l = record { four = size (ℕ-discrete r 0); near = λ j o. low j (eqb r 0 || eqb j c) o; each = λ j lj. go j lj (ℕ-discrete r 0) (ℕ-discrete j c) }
+conn-logs ds k c r i l = record { four = size (ℕ-discrete r 0); near = λ j o. low j (eqb r 0 || eqb j c) o; each = λ j lj. go j lj (ℕ-discrete r 0) (ℕ-discrete j c) }
   where
     low : (j : ℕ) (u : Bool) → pick u false (isOpen ds j) ≡ true → j < 4
     low j true o = let z : _≡_ {A = ℕ} 0 1 = cc in absurd (omega arith)
@@ -287,27 +291,27 @@ conn-logs ds k c r e i l = record { four = size (ℕ-discrete r 0); near = λ j 
     size (yes z) = rw (eq-eqb r 0 z)
     size (no z) = rw (ne-eqb r 0 z) (length-set k c closed ∙ i .four)
 
-    go : (j : ℕ) → j < 4 → Dec (r ≡ 0) → Dec (j ≡ c) → ConnIs (logsOut c r e ∷ ds) j (getD (connsLeft k c r) j closed)
+    go : (j : ℕ) → j < 4 → Dec (r ≡ 0) → Dec (j ≡ c) → ConnIs (closes c r ∷ ds) j (getD (connsLeft k c r) j closed)
     go j lj (yes z) d = rw (eq-eqb r 0 z, all-closed 4 j) (unfold ConnIs in (unfold isOpen in (rw (eq-eqb r 0 z))))
     go j lj (no z) (yes q) =
         rw (ne-eqb r 0 z, q, getD-set-same k c closed closed (omega (arith, i .four))) (unfold ConnIs in (unfold isOpen in (rw (ne-eqb r 0 z, eq-eqb c c refl))))
     go j lj (no z) (no q) =
         rw (ne-eqb r 0 z, getD-set-other k c j closed closed q)
-        (carry ds (logsOut c r e ∷ ds) j (getD k j closed) (unfold isOpen in (rw (ne-eqb r 0 z, ne-eqb j c q))) (λ n. unfold statusIn in (unfold acknowledgedSince in (unfold lastSent in refl))) (i .each j lj))
+        (carry ds (closes c r ∷ ds) j (getD k j closed) (unfold isOpen in (rw (ne-eqb r 0 z, ne-eqb j c q))) (λ n. unfold statusIn in (unfold acknowledgedSince in (unfold lastSent in refl))) (i .each j lj))
 
-pub conn-fresh : (s : ℕ) → ConnInv [] (live (L.freshLedger s) ∷ closed ∷ closed ∷ closed ∷ [])
-conn-fresh s = record { four = refl; near = λ c o. zero-only c (ℕ-discrete c 0) o; each = go }
+pub conn-fresh : (o : Opening) → ConnInv [] (live (openedBy o) ∷ closed ∷ closed ∷ closed ∷ [])
+conn-fresh o = record { four = refl; near = λ c p. zero-only c (ℕ-discrete c 0) p; each = go }
   where
     zero-only : (c : ℕ) → Dec (c ≡ 0) → isOpen [] c ≡ true → c < 4
-    zero-only c (yes e) o = omega arith
-    zero-only c (no n) o = let q : eqb c 0 ≡ true = unfold isOpen in o in absurd (n (eqb-true c 0 q))
+    zero-only c (yes e) p = omega arith
+    zero-only c (no n) p = let q : eqb c 0 ≡ true = unfold isOpen in p in absurd (n (eqb-true c 0 q))
 
-    go : (c : ℕ) → c < 4 → ConnIs [] c (getD (live (L.freshLedger s) ∷ closed ∷ closed ∷ closed ∷ []) c closed)
+    go : (c : ℕ) → c < 4 → ConnIs [] c (getD (live (openedBy o) ∷ closed ∷ closed ∷ closed ∷ []) c closed)
     go zero l = unfold ConnIs in (record {
       open-now = unfold isOpen in refl;
-      fits = unfold L.freshLedger in (omega arith);
-      few = unfold L.freshLedger in (omega arith);
-      status = λ m. unfold statusIn in (unfold acknowledgedSince in (unfold lastSent in (unfold L.statusOf in (unfold L.freshLedger in (unfold L.lookup in refl)))));
+      fits = unfold openedBy in (unfold L.freshLedger in (omega arith));
+      few = unfold openedBy in (unfold L.freshLedger in (omega arith));
+      status = λ m. unfold statusIn in (unfold acknowledgedSince in (unfold lastSent in (unfold L.statusOf in (unfold openedBy in (unfold L.freshLedger in (unfold L.lookup in refl))))));
     })
     go (suc zero) l = unfold ConnIs in (unfold isOpen in refl)
     go (suc (suc zero)) l = unfold ConnIs in (unfold isOpen in refl)

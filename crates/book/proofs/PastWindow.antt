@@ -17,8 +17,11 @@ use Rattle.window.specs.Book.{Origin, connection, isFrom, Place, empty, holds, 
 use Rattle.window.specs.Agree.{heldBit}
 use Rattle.window.proofs.Bits.{shifted, all-empty}
 use Rattle.window.proofs.Left.{left-before, left-after, length-left}
-use Rattle.book.proofs.Small.{apart}
-use Rattle.book.specs.Notions.{Effect, keeps, handsOut, logsOut, opens, sends, acknowledges, nothing, same, handOuts, next, distance, amongLast, Latest, by, latestOffer, originOf, concerned, heldRun, held, gapless, expCmdSN, maxCmdSN, beforeExp, voidedSince, keptOffers, emptied, countHeld, heldNow}
+use Rattle.book.proofs.Small.{apart, share-some, share-fits}
+use Rattle.book.specs.declared.Given.{Given}
+use Rattle.book.specs.Book.{share}
+use Rattle.book.specs.Effects.{WindowEffect, keeps, handsOut, logsOut}
+use Rattle.book.specs.Commands.{same, handOuts, next, distance, amongLast, Latest, by, latestOffer, originOf, concerned, heldRun, held, gapless, expCmdSN, maxCmdSN, beforeExp, voidedSince, keptOffers, emptied, countHeld, heldNow}
 
 -- ---- what the history has under a number
 
@@ -33,63 +36,52 @@ ticketIn (by c t h) = t
 unfoldable pub placeOf : Bool → Latest → Origin → Bool → Place
 placeOf h l o v = pick h (holds (record { header = headerIn l; ticket = ticketIn l; origin = o; void = v })) empty
 
-unfoldable pub placeIn : ℕ → List Effect → ℕ → Place
-placeIn f ds n = placeOf (held f ds n) (latestOffer ds n) (originOf ds n) (voidedSince f ds n)
+unfoldable pub placeIn : Given → List WindowEffect → ℕ → Place
+placeIn g ds n = placeOf (held g ds n) (latestOffer ds n) (originOf ds n) (voidedSince g ds n)
 
 unfoldable pub isHeld : Place → Bool
 isHeld empty = false
 isHeld (holds e) = true
 
 -- each number handed out was the next one
-unfoldable pub AllNumbered : ℕ → List Effect → Type 0
-AllNumbered f [] = Unit {0}
-AllNumbered f (keeps m c t h ∷ ds) = AllNumbered f ds
-AllNumbered f (handsOut m ∷ ds) = (m ≡ next f ds) × AllNumbered f ds
-AllNumbered f (logsOut c r e ∷ ds) = AllNumbered f ds
-AllNumbered f (opens c ∷ ds) = AllNumbered f ds
-AllNumbered f (sends c m t h ∷ ds) = AllNumbered f ds
-AllNumbered f (acknowledges c x ∷ ds) = AllNumbered f ds
-AllNumbered f (nothing ∷ ds) = AllNumbered f ds
+unfoldable pub AllNumbered : Given → List WindowEffect → Type 0
+AllNumbered g [] = Unit {0}
+AllNumbered g (keeps m c t h ∷ ds) = AllNumbered g ds
+AllNumbered g (handsOut m ∷ ds) = (m ≡ next g ds) × AllNumbered g ds
+AllNumbered g (logsOut c r e v ∷ ds) = AllNumbered g ds
+AllNumbered g (WindowEffect.none ∷ ds) = AllNumbered g ds
 
-pub record WindowInv (f : ℕ) (ds : List Effect) (w : W.Book) : Type 0 where
-  pub first : w .first ≡ f % 2 ^ 32
+pub record WindowInv (g : Given) (ds : List WindowEffect) (w : W.Book) : Type 0 where
+  pub first : w .first ≡ g .first % 2 ^ 32
   pub handed : w .handed ≡ handOuts ds
-  pub size : length (w .held) ≡ 64
-  pub places : (n : ℕ) → placeIn f ds n ≡ getD (w .held) (W.distance w n) empty
-  pub numbered : AllNumbered f ds
+  pub size : length (w .held) ≡ share g
+  pub share : w .share ≡ share g
+  pub places : (n : ℕ) → placeIn g ds n ≡ getD (w .held) (W.distance w n) empty
+  pub numbered : AllNumbered g ds
   pub balance : keptOffers ds ≡ handOuts ds + sumOf heldBit (w .held) + emptied ds
 
-pub next-is : (f : ℕ) (ds : List Effect) (w : W.Book) → WindowInv f ds w → next f ds ≡ W.next w
+pub next-is : (g : Given) (ds : List WindowEffect) (w : W.Book) → WindowInv g ds w → next g ds ≡ W.next w
 unfolding next W.next
-next-is f ds w i = rw (i .first, i .handed) (omega arith)
+next-is g ds w i = rw (i .first, i .handed) (omega arith)
 
-pub distance-is : (f : ℕ) (ds : List Effect) (w : W.Book) (n : ℕ) → WindowInv f ds w → distance f ds n ≡ W.distance w n
+pub distance-is : (g : Given) (ds : List WindowEffect) (w : W.Book) (n : ℕ) → WindowInv g ds w → distance g ds n ≡ W.distance w n
 unfolding distance W.distance
-distance-is f ds w n i = rw (next-is f ds w i)
+distance-is g ds w n i = rw (next-is g ds w i)
 
-pub held-is : (f : ℕ) (ds : List Effect) (w : W.Book) (n : ℕ) → WindowInv f ds w → held f ds n ≡ isHeld (getD (w .held) (W.distance w n) empty)
+pub held-is : (g : Given) (ds : List WindowEffect) (w : W.Book) (n : ℕ) → WindowInv g ds w → held g ds n ≡ isHeld (getD (w .held) (W.distance w n) empty)
 unfolding placeIn placeOf isHeld
-held-is f ds w n i = go (held f ds n) refl ∙ ap isHeld (i .places n)
+held-is g ds w n i = go (held g ds n) refl ∙ ap isHeld (i .places n)
   where
-    go : (u : Bool) → held f ds n ≡ u
-        → held f ds n ≡ isHeld (pick (held f ds n) (holds (record { header = headerIn (latestOffer ds n); ticket = ticketIn (latestOffer ds n); origin = originOf ds n; void = voidedSince f ds n })) empty)
+    go : (u : Bool) → held g ds n ≡ u
+        → held g ds n ≡ isHeld (pick (held g ds n) (holds (record { header = headerIn (latestOffer ds n); ticket = ticketIn (latestOffer ds n); origin = originOf ds n; void = voidedSince g ds n })) empty)
     go true q = rw q
     go false q = rw q
 
--- ---- effects that are not the window's
+-- ---- a call that does nothing to the window
 
-pub data Quiet : Effect → Type 0 where
-  q-opens : (c : ℕ) → Quiet (opens c)
-  q-sends : (c m t : ℕ) (h : List ℕ) → Quiet (sends c m t h)
-  q-acknowledges : (c x : ℕ) → Quiet (acknowledges c x)
-  q-nothing : Quiet nothing
-
-pub window-quiet : {d : Effect} {f : ℕ} {ds : List Effect} {w : W.Book} → Quiet d → WindowInv f ds w → WindowInv f (d ∷ ds) w
+pub window-quiet : {g : Given} {ds : List WindowEffect} {w : W.Book} → WindowInv g ds w → WindowInv g (WindowEffect.none ∷ ds) w
 unfolding handOuts placeIn held latestOffer originOf voidedSince AllNumbered keptOffers emptied
-window-quiet (q-opens c) i = record { first = i .first; handed = i .handed; size = i .size; places = i .places; numbered = i .numbered; balance = i .balance }
-window-quiet (q-sends c m t h) i = record { first = i .first; handed = i .handed; size = i .size; places = i .places; numbered = i .numbered; balance = i .balance }
-window-quiet (q-acknowledges c x) i = record { first = i .first; handed = i .handed; size = i .size; places = i .places; numbered = i .numbered; balance = i .balance }
-window-quiet q-nothing i = record { first = i .first; handed = i .handed; size = i .size; places = i .places; numbered = i .numbered; balance = i .balance }
+window-quiet i = record { first = i .first; handed = i .handed; share = i .share; size = i .size; places = i .places; numbered = i .numbered; balance = i .balance }
 
 -- ---- numbers modulo 2 ^ 32
 
@@ -127,13 +119,14 @@ held-set [] d e h z = absurd (omega arith)
 held-set (p ∷ l) zero e h z = rw z (omega arith)
 held-set (p ∷ l) (suc d) e h z = omega (arith, held-set l d e (omega arith) z)
 
-pub window-keeps : (f : ℕ) (ds : List Effect) (w : W.Book) (m c t : ℕ) (h : List ℕ) → WindowInv f ds w → W.distance w m < 64
+pub window-keeps : (g : Given) (ds : List WindowEffect) (w : W.Book) (m c t : ℕ) (h : List ℕ) → WindowInv g ds w → W.distance w m < share g
     → getD (w .held) (W.distance w m) empty ≡ empty
-    → WindowInv f (keeps m c t h ∷ ds) (W.keeping w (W.distance w m) (record { header = h; ticket = t; origin = connection c; void = false }))
+    → WindowInv g (keeps m c t h ∷ ds) (W.keeping w (W.distance w m) (record { header = h; ticket = t; origin = connection c; void = false }))
 unfolding W.keeping handOuts placeIn held latestOffer originOf voidedSince AllNumbered keptOffers emptied
-window-keeps f ds w m c t h i l z = record {
+window-keeps g ds w m c t h i l z = record {
   first = i .first;
   handed = i .handed;
+  share = i .share;
   size = length-set (w .held) (W.distance w m) (holds e) ∙ i .size;
   places = λ n. at n (same n m) refl;
   numbered = i .numbered;
@@ -147,7 +140,7 @@ window-keeps f ds w m c t h i l z = record {
     stays n = unfold W.distance in (unfold W.next in refl)
 
     at : (n : ℕ) (u : Bool) → same n m ≡ u
-        → placeOf (pick (same n m) true (held f ds n)) (pick (same n m) (by c t h) (latestOffer ds n)) (pick (same n m) (connection c) (originOf ds n)) (pick (same n m) false (voidedSince f ds n))
+        → placeOf (pick (same n m) true (held g ds n)) (pick (same n m) (by c t h) (latestOffer ds n)) (pick (same n m) (connection c) (originOf ds n)) (pick (same n m) false (voidedSince g ds n))
         ≡ getD (set (w .held) (W.distance w m) (holds e)) (W.distance (W.keeping w (W.distance w m) e) n) empty
     at n true q =
         rw (q, stays n, distance-same w n m (same-true n m q), getD-set-same (w .held) (W.distance w m) (holds e) empty (omega (arith, i .size))) (unfold placeOf in refl)
@@ -188,15 +181,16 @@ next-mod : (w : W.Book) → W.next w % 2 ^ 32 ≡ W.next w
 unfolding W.next
 next-mod w = omega arith
 
-pub window-hands : (f : ℕ) (ds : List Effect) (w : W.Book) (e : Command) → WindowInv f ds w → W.firstPlace w ≡ holds e
-    → WindowInv f (handsOut (W.next w) ∷ ds) (W.handedOn w)
+pub window-hands : (g : Given) (ds : List WindowEffect) (w : W.Book) (e : Command) → WindowInv g ds w → W.firstPlace w ≡ holds e
+    → WindowInv g (handsOut (W.next w) ∷ ds) (W.handedOn w)
 unfolding handOuts placeIn held latestOffer originOf voidedSince AllNumbered keptOffers emptied W.firstPlace
-window-hands f ds w e i q = record {
+window-hands g ds w e i q = record {
   first = unfold W.handedOn in (i .first);
   handed = unfold W.handedOn in (ap suc (i .handed));
-  size = unfold W.handedOn in (rw (length-append, length-drop) (omega (arith, i .size)));
+  share = unfold W.handedOn in (i .share);
+  size = unfold W.handedOn in (rw (length-append, length-drop) (omega (arith, i .size, share-some g)));
   places = λ n. at n (same n (W.next w)) refl;
-  numbered = (sym (next-is f ds w i), i .numbered);
+  numbered = (sym (next-is g ds w i), i .numbered);
   balance = unfold W.handedOn in (omega (arith, i .balance, held-first (w .held) e q));
 }
   where
@@ -204,11 +198,11 @@ window-hands f ds w e i q = record {
     line n = unfold W.handedOn in (shifted (w .held) (W.distance (W.handedOn w) n))
 
     at : (n : ℕ) (u : Bool) → same n (W.next w) ≡ u
-        → placeOf (pick (same n (W.next w)) false (held f ds n)) (latestOffer ds n) (originOf ds n) (voidedSince f ds n)
+        → placeOf (pick (same n (W.next w)) false (held g ds n)) (latestOffer ds n) (originOf ds n) (voidedSince g ds n)
         ≡ getD (W.handedOn w .held) (W.distance (W.handedOn w) n) empty
     at n true s =
         rw (s, line n, on-last w n (same-true n (W.next w) s ∙ next-mod w))
-        (sym (List·getD-eq-default (w .held) empty {n = 2 ^ 32} (omega (arith, i .size)) ∙ unfold placeOf in refl))
+        (sym (List·getD-eq-default (w .held) empty {n = 2 ^ 32} (omega (arith, i .size, share-fits g)) ∙ unfold placeOf in refl))
     at n false s =
         rw (s, line n, on-distance w n (λ x. same-false n (W.next w) s (x ∙ sym (next-mod w)))) (i .places n)
 
@@ -251,34 +245,34 @@ count-held h (x ∷ l) k (suc m) e q =
 near : (x j : ℕ) → x < 2 ^ 32 → j < 64 → (x + j + (2 ^ 32 - x)) % 2 ^ 32 ≡ j
 near x j l h = omega arith
 
-place-near : (f : ℕ) (ds : List Effect) (w : W.Book) → WindowInv f ds w → (j : ℕ) → j < 64 → W.distance w (next f ds + j) ≡ j
+place-near : (g : Given) (ds : List WindowEffect) (w : W.Book) → WindowInv g ds w → (j : ℕ) → j < share g → W.distance w (next g ds + j) ≡ j
 unfolding W.distance
-place-near f ds w i j l = ap (λ (x : ℕ). (x + j + (2 ^ 32 - W.next w)) % 2 ^ 32) (next-is f ds w i) ∙ near (W.next w) j (next-lt w) l
+place-near g ds w i j l = ap (λ (x : ℕ). (x + j + (2 ^ 32 - W.next w)) % 2 ^ 32) (next-is g ds w i) ∙ near (W.next w) j (next-lt w) (omega (arith, share-fits g))
 
-held-near : (f : ℕ) (ds : List Effect) (w : W.Book) → WindowInv f ds w → (j : ℕ) → j < 64 → held f ds (next f ds + j) ≡ isHeld (getD (w .held) j empty)
-held-near f ds w i j l = held-is f ds w (next f ds + j) i ∙ ap (λ (d : ℕ). isHeld (getD (w .held) d empty)) (place-near f ds w i j l)
+held-near : (g : Given) (ds : List WindowEffect) (w : W.Book) → WindowInv g ds w → (j : ℕ) → j < share g → held g ds (next g ds + j) ≡ isHeld (getD (w .held) j empty)
+held-near g ds w i j l = held-is g ds w (next g ds + j) i ∙ ap (λ (d : ℕ). isHeld (getD (w .held) d empty)) (place-near g ds w i j l)
 
-pub place-first : (f : ℕ) (ds : List Effect) (w : W.Book) → WindowInv f ds w → placeIn f ds (next f ds) ≡ W.firstPlace w
+pub place-first : (g : Given) (ds : List WindowEffect) (w : W.Book) → WindowInv g ds w → placeIn g ds (next g ds) ≡ W.firstPlace w
 unfolding W.firstPlace
-place-first f ds w i =
-    ap (placeIn f ds) (sym (add-zero (next f ds))) ∙ i .places (next f ds + 0)
-    ∙ ap (λ (d : ℕ). getD (w .held) d empty) (place-near f ds w i 0 (omega arith))
+place-first g ds w i =
+    ap (placeIn g ds) (sym (add-zero (next g ds))) ∙ i .places (next g ds + 0)
+    ∙ ap (λ (d : ℕ). getD (w .held) d empty) (place-near g ds w i 0 (share-some g))
 
-pub gap-is : (f : ℕ) (ds : List Effect) (w : W.Book) → WindowInv f ds w → gapless f ds ≡ W.gapless (w .held)
+pub gap-is : (g : Given) (ds : List WindowEffect) (w : W.Book) → WindowInv g ds w → gapless g ds ≡ W.gapless (w .held)
 unfolding gapless
-gap-is f ds w i = run-gap (λ k. held f ds (next f ds + k)) (w .held) 0 64 (i .size) (λ j l. ap (λ (x : ℕ). held f ds (next f ds + x)) (zero-add j) ∙ held-near f ds w i j l)
+gap-is g ds w i = run-gap (λ k. held g ds (next g ds + k)) (w .held) 0 (share g) (i .size) (λ j l. ap (λ (x : ℕ). held g ds (next g ds + x)) (zero-add j) ∙ held-near g ds w i j l)
 
-pub count-is : (f : ℕ) (ds : List Effect) (w : W.Book) → WindowInv f ds w → heldNow f ds ≡ sumOf heldBit (w .held)
+pub count-is : (g : Given) (ds : List WindowEffect) (w : W.Book) → WindowInv g ds w → heldNow g ds ≡ sumOf heldBit (w .held)
 unfolding heldNow
-count-is f ds w i = count-held (λ k. held f ds (next f ds + k)) (w .held) 0 64 (i .size) (λ j l. ap (λ (x : ℕ). held f ds (next f ds + x)) (zero-add j) ∙ held-near f ds w i j l)
+count-is g ds w i = count-held (λ k. held g ds (next g ds + k)) (w .held) 0 (share g) (i .size) (λ j l. ap (λ (x : ℕ). held g ds (next g ds + x)) (zero-add j) ∙ held-near g ds w i j l)
 
-pub exp-is : (f : ℕ) (ds : List Effect) (w : W.Book) → WindowInv f ds w → expCmdSN f ds ≡ W.expCmdSN w
+pub exp-is : (g : Given) (ds : List WindowEffect) (w : W.Book) → WindowInv g ds w → expCmdSN g ds ≡ W.expCmdSN w
 unfolding expCmdSN W.expCmdSN
-exp-is f ds w i = rw (next-is f ds w i, gap-is f ds w i)
+exp-is g ds w i = rw (next-is g ds w i, gap-is g ds w i)
 
-pub max-is : (f : ℕ) (ds : List Effect) (w : W.Book) → WindowInv f ds w → maxCmdSN f ds ≡ W.maxCmdSN w
+pub max-is : (g : Given) (ds : List WindowEffect) (w : W.Book) → WindowInv g ds w → maxCmdSN g ds ≡ W.maxCmdSN w
 unfolding maxCmdSN W.maxCmdSN
-max-is f ds w i = rw (next-is f ds w i)
+max-is g ds w i = rw (next-is g ds w i, i .share)
 
 -- ---- a logout
 
@@ -357,38 +351,39 @@ left-sum c r (suc g) [] = refl
 left-sum c r zero (p ∷ l) = omega (arith, left-sum c r zero l, after-sum c r p)
 left-sum c r (suc g) (p ∷ l) = omega (arith, left-sum c r g l, before-sum c r p)
 
-pub window-logs : (f : ℕ) (ds : List Effect) (w : W.Book) (c r : ℕ) → WindowInv f ds w
-    → WindowInv f (logsOut c r (sumOf (emptiedAt c r) (drop (W.gapless (w .held)) (w .held))) ∷ ds) (W.afterLogout w c r (W.gapless (w .held)))
+pub window-logs : (g : Given) (ds : List WindowEffect) (w : W.Book) (c r v : ℕ) → WindowInv g ds w
+    → WindowInv g (logsOut c r (sumOf (emptiedAt c r) (drop (W.gapless (w .held)) (w .held))) v ∷ ds) (W.afterLogout w c r (W.gapless (w .held)))
 unfolding handOuts placeIn held latestOffer originOf voidedSince AllNumbered keptOffers emptied W.afterLogout beforeExp
-window-logs f ds w c r i = record {
+window-logs g ds w c r v i = record {
   first = i .first;
   handed = i .handed;
+  share = i .share;
   size = length-left c r (W.gapless (w .held)) (w .held) ∙ i .size;
   places = λ n.
-      let gp : heldRun (λ k. held f ds (next f ds + k)) 0 64 ≡ W.gapless (w .held) = unfold gapless in (gap-is f ds w i) in
-      rw (gp, gap-is f ds w i, distance-is f ds w n i) (at n (decLt (W.distance w n) (W.gapless (w .held))));
+      let gp : heldRun (λ k. held g ds (next g ds + k)) 0 (share g) ≡ W.gapless (w .held) = unfold gapless in (gap-is g ds w i) in
+      rw (gp, gap-is g ds w i, distance-is g ds w n i) (at n (decLt (W.distance w n) (W.gapless (w .held))));
   numbered = i .numbered;
   balance = omega (arith, i .balance, left-sum c r (W.gapless (w .held)) (w .held));
 }
   where
-    g : ℕ
-    g = W.gapless (w .held)
+    gap : ℕ
+    gap = W.gapless (w .held)
 
-    stays : (n : ℕ) → W.distance (W.afterLogout w c r g) n ≡ W.distance w n
+    stays : (n : ℕ) → W.distance (W.afterLogout w c r gap) n ≡ W.distance w n
     stays n = unfold W.distance in (unfold W.next in refl)
 
-    at : (n : ℕ) → Dec (W.distance w n < g)
-        → placeOf (held f ds n && not (concerned c r (originOf ds n) && not (ltb (W.distance w n) g))) (latestOffer ds n)
+    at : (n : ℕ) → Dec (W.distance w n < gap)
+        → placeOf (held g ds n && not (concerned c r (originOf ds n) && not (ltb (W.distance w n) gap))) (latestOffer ds n)
         (pick (eqb r 2 && isFrom c (originOf ds n)) W.none (originOf ds n))
-        (voidedSince f ds n || (not (eqb r 2) && (concerned c r (originOf ds n) && ltb (W.distance w n) g)))
-        ≡ getD (W.left c r g (w .held)) (W.distance (W.afterLogout w c r g) n) empty
+        (voidedSince g ds n || (not (eqb r 2) && (concerned c r (originOf ds n) && ltb (W.distance w n) gap)))
+        ≡ getD (W.left c r gap (w .held)) (W.distance (W.afterLogout w c r gap) n) empty
     at n (yes l) =
-        rw (lt-ltb (W.distance w n) g l, stays n, left-before c r g (w .held) (W.distance w n) l)
-        (left-in c r (held f ds n) (latestOffer ds n) (originOf ds n) (voidedSince f ds n) ∙ ap (W.before c r) (i .places n))
+        rw (lt-ltb (W.distance w n) gap l, stays n, left-before c r gap (w .held) (W.distance w n) l)
+        (left-in c r (held g ds n) (latestOffer ds n) (originOf ds n) (voidedSince g ds n) ∙ ap (W.before c r) (i .places n))
     at n (no l) =
-        let k : g ≤ W.distance w n = omega arith in
-        rw (le-ltb (W.distance w n) g k, stays n, left-after c r g (w .held) (W.distance w n) k)
-        (left-out c r (held f ds n) (latestOffer ds n) (originOf ds n) (voidedSince f ds n) ∙ ap (W.after c r) (i .places n))
+        let k : gap ≤ W.distance w n = omega arith in
+        rw (le-ltb (W.distance w n) gap k, stays n, left-after c r gap (w .held) (W.distance w n) k)
+        (left-out c r (held g ds n) (latestOffer ds n) (originOf ds n) (voidedSince g ds n) ∙ ap (W.after c r) (i .places n))
 
 -- ---- the last numbers handed out
 
@@ -404,53 +399,50 @@ one-more x k h l = go (decLe x (min (k - 1) h))
         let b : min k (suc h) < suc x = omega arith in
         lt-leb x (min (k - 1) h) c ∙ sym (lt-leb (suc x) (min k (suc h)) b)
 
-distance-lt : (f : ℕ) (ds : List Effect) (n : ℕ) → distance f ds n < 2 ^ 32
+distance-lt : (g : Given) (ds : List WindowEffect) (n : ℕ) → distance g ds n < 2 ^ 32
 unfolding distance
-distance-lt f ds n = omega arith
+distance-lt g ds n = omega arith
 
-hand-turn : (f : ℕ) (ds : List Effect) (m n : ℕ) → m ≡ next f ds → same n m ≡ false → suc (distance f (handsOut m ∷ ds) n) ≡ distance f ds n
+hand-turn : (g : Given) (ds : List WindowEffect) (m n : ℕ) → m ≡ next g ds → same n m ≡ false → suc (distance g (handsOut m ∷ ds) n) ≡ distance g ds n
 unfolding distance next handOuts
-hand-turn f ds m n e s =
-    let q : f + suc (handOuts ds) ≡ suc (f + handOuts ds) = omega arith in
-    rw q (turn (f + handOuts ds) n (λ x. same-false n m s (x ∙ mods (f + handOuts ds) m e)))
+hand-turn g ds m n e s =
+    let q : g .first + suc (handOuts ds) ≡ suc (g .first + handOuts ds) = omega arith in
+    rw q (turn (g .first + handOuts ds) n (λ x. same-false n m s (x ∙ mods (g .first + handOuts ds) m e)))
   where
     mods : (a m : ℕ) → m ≡ a % 2 ^ 32 → a % 2 ^ 32 ≡ m % 2 ^ 32
     mods a m e = omega arith
 
-hand-last : (f : ℕ) (ds : List Effect) (m n : ℕ) → m ≡ next f ds → same n m ≡ true → suc (distance f (handsOut m ∷ ds) n) ≡ 2 ^ 32
+hand-last : (g : Given) (ds : List WindowEffect) (m n : ℕ) → m ≡ next g ds → same n m ≡ true → suc (distance g (handsOut m ∷ ds) n) ≡ 2 ^ 32
 unfolding distance next handOuts
-hand-last f ds m n e s =
-    let q : f + suc (handOuts ds) ≡ suc (f + handOuts ds) = omega arith in
-    rw q (last (f + handOuts ds) n (same-true n m s ∙ mods (f + handOuts ds) m e))
+hand-last g ds m n e s =
+    let q : g .first + suc (handOuts ds) ≡ suc (g .first + handOuts ds) = omega arith in
+    rw q (last (g .first + handOuts ds) n (same-true n m s ∙ mods (g .first + handOuts ds) m e))
   where
     mods : (a m : ℕ) → m ≡ a % 2 ^ 32 → m % 2 ^ 32 ≡ a % 2 ^ 32
     mods a m e = omega arith
 
-last-hands : (f k : ℕ) (ds : List Effect) (m n : ℕ) → m ≡ next f ds → amongLast (k - 1) ds n ≡ leb (2 ^ 32 - distance f ds n) (min (k - 1) (handOuts ds))
-    → (ltb 0 k && (same n m || amongLast (k - 1) ds n)) ≡ leb (2 ^ 32 - distance f (handsOut m ∷ ds) n) (min k (suc (handOuts ds)))
-last-hands f k ds m n e ih = go (decLt 0 k) (same n m) refl
+last-hands : (g : Given) (k : ℕ) (ds : List WindowEffect) (m n : ℕ) → m ≡ next g ds → amongLast (k - 1) ds n ≡ leb (2 ^ 32 - distance g ds n) (min (k - 1) (handOuts ds))
+    → (ltb 0 k && (same n m || amongLast (k - 1) ds n)) ≡ leb (2 ^ 32 - distance g (handsOut m ∷ ds) n) (min k (suc (handOuts ds)))
+last-hands g k ds m n e ih = go (decLt 0 k) (same n m) refl
   where
-    go : Dec (0 < k) → (t : Bool) → same n m ≡ t → (ltb 0 k && (same n m || amongLast (k - 1) ds n)) ≡ leb (2 ^ 32 - distance f (handsOut m ∷ ds) n) (min k (suc (handOuts ds)))
+    go : Dec (0 < k) → (t : Bool) → same n m ≡ t → (ltb 0 k && (same n m || amongLast (k - 1) ds n)) ≡ leb (2 ^ 32 - distance g (handsOut m ∷ ds) n) (min k (suc (handOuts ds)))
     go (no z) t s =
-        let lt : min k (suc (handOuts ds)) < 2 ^ 32 - distance f (handsOut m ∷ ds) n = omega (arith, distance-lt f (handsOut m ∷ ds) n) in
+        let lt : min k (suc (handOuts ds)) < 2 ^ 32 - distance g (handsOut m ∷ ds) n = omega (arith, distance-lt g (handsOut m ∷ ds) n) in
         rw (le-ltb 0 k (omega arith)) (sym (lt-leb _ _ lt))
     go (yes p) true s =
-        let le : 2 ^ 32 - distance f (handsOut m ∷ ds) n ≤ min k (suc (handOuts ds)) = omega (arith, hand-last f ds m n e s) in
+        let le : 2 ^ 32 - distance g (handsOut m ∷ ds) n ≤ min k (suc (handOuts ds)) = omega (arith, hand-last g ds m n e s) in
         rw (lt-ltb 0 k p, s) (sym (le-leb _ _ le))
     go (yes p) false s =
-        let x : 2 ^ 32 - distance f (handsOut m ∷ ds) n ≡ suc (2 ^ 32 - distance f ds n) = omega (arith, hand-turn f ds m n e s, distance-lt f ds n) in
-        rw (lt-ltb 0 k p, s, x, ih) (one-more (2 ^ 32 - distance f ds n) k (handOuts ds) p)
+        let x : 2 ^ 32 - distance g (handsOut m ∷ ds) n ≡ suc (2 ^ 32 - distance g ds n) = omega (arith, hand-turn g ds m n e s, distance-lt g ds n) in
+        rw (lt-ltb 0 k p, s, x, ih) (one-more (2 ^ 32 - distance g ds n) k (handOuts ds) p)
 
-pub last-is : (f k : ℕ) (ds : List Effect) (n : ℕ) → AllNumbered f ds → k ≤ 2 ^ 31 → amongLast k ds n ≡ leb (2 ^ 32 - distance f ds n) (min k (handOuts ds))
+pub last-is : (g : Given) (k : ℕ) (ds : List WindowEffect) (n : ℕ) → AllNumbered g ds → k ≤ 2 ^ 31 → amongLast k ds n ≡ leb (2 ^ 32 - distance g ds n) (min k (handOuts ds))
 unfolding amongLast AllNumbered handOuts
-last-is f k [] n h l = sym (lt-leb (2 ^ 32 - distance f [] n) (min k 0) (omega (arith, distance-lt f [] n)))
-last-is f k (keeps m c t x ∷ ds) n h l = last-is f k ds n h l ∙ unfold distance in (unfold next in refl)
-last-is f k (handsOut m ∷ ds) n h l = last-hands f k ds m n (h .0) (last-is f (k - 1) ds n (h .1) (omega arith))
-last-is f k (logsOut c r e ∷ ds) n h l = last-is f k ds n h l ∙ unfold distance in (unfold next in refl)
-last-is f k (opens c ∷ ds) n h l = last-is f k ds n h l ∙ unfold distance in (unfold next in refl)
-last-is f k (sends c m t x ∷ ds) n h l = last-is f k ds n h l ∙ unfold distance in (unfold next in refl)
-last-is f k (acknowledges c x ∷ ds) n h l = last-is f k ds n h l ∙ unfold distance in (unfold next in refl)
-last-is f k (nothing ∷ ds) n h l = last-is f k ds n h l ∙ unfold distance in (unfold next in refl)
+last-is g k [] n h l = sym (lt-leb (2 ^ 32 - distance g [] n) (min k 0) (omega (arith, distance-lt g [] n)))
+last-is g k (keeps m c t x ∷ ds) n h l = last-is g k ds n h l ∙ unfold distance in (unfold next in refl)
+last-is g k (handsOut m ∷ ds) n h l = last-hands g k ds m n (h .0) (last-is g (k - 1) ds n (h .1) (omega arith))
+last-is g k (logsOut c r e v ∷ ds) n h l = last-is g k ds n h l ∙ unfold distance in (unfold next in refl)
+last-is g k (WindowEffect.none ∷ ds) n h l = last-is g k ds n h l ∙ unfold distance in (unfold next in refl)
 
 -- ---- a number that is held was offered
 
@@ -458,24 +450,21 @@ and-left : (a b : Bool) → (a && b) ≡ true → a ≡ true
 and-left true b e = refl
 and-left false b e = e
 
-pub was-offered : (f : ℕ) (ds : List Effect) (n : ℕ) → held f ds n ≡ true → latestOffer ds n ≡ Latest.none → ⊥
+pub was-offered : (g : Given) (ds : List WindowEffect) (n : ℕ) → held g ds n ≡ true → latestOffer ds n ≡ Latest.none → ⊥
 unfolding held latestOffer
-was-offered f [] n h l = apart h refl
-was-offered f (keeps m c t x ∷ ds) n h l = go (same n m) refl (λ a b. was-offered f ds n a b)
+was-offered g [] n h l = apart h refl
+was-offered g (keeps m c t x ∷ ds) n h l = go (same n m) refl (λ a b. was-offered g ds n a b)
   where
-    go : (u : Bool) → same n m ≡ u → (held f ds n ≡ true → latestOffer ds n ≡ Latest.none → ⊥) → ⊥
+    go : (u : Bool) → same n m ≡ u → (held g ds n ≡ true → latestOffer ds n ≡ Latest.none → ⊥) → ⊥
     go true s ih = let y : by c t x ≡ Latest.none = rw s at l in let z : _≡_ {A = ℕ} 0 1 = cc in omega arith
     go false s ih = ih (rw s at h) (rw s at l)
-was-offered f (handsOut m ∷ ds) n h l = go (same n m) refl (λ a. was-offered f ds n a l)
+was-offered g (handsOut m ∷ ds) n h l = go (same n m) refl (λ a. was-offered g ds n a l)
   where
-    go : (u : Bool) → same n m ≡ u → (held f ds n ≡ true → ⊥) → ⊥
+    go : (u : Bool) → same n m ≡ u → (held g ds n ≡ true → ⊥) → ⊥
     go true s ih = apart (rw s at h) refl
     go false s ih = ih (rw s at h)
-was-offered f (logsOut c r e ∷ ds) n h l = was-offered f ds n (and-left _ _ h) l
-was-offered f (opens c ∷ ds) n h l = was-offered f ds n h l
-was-offered f (sends c m t x ∷ ds) n h l = was-offered f ds n h l
-was-offered f (acknowledges c x ∷ ds) n h l = was-offered f ds n h l
-was-offered f (nothing ∷ ds) n h l = was-offered f ds n h l
+was-offered g (logsOut c r e v ∷ ds) n h l = was-offered g ds n (and-left _ _ h) l
+was-offered g (WindowEffect.none ∷ ds) n h l = was-offered g ds n h l
 
 -- ---- a fresh window
 
@@ -484,13 +473,14 @@ unfolding sumOf heldBit
 none-held zero = refl
 none-held (suc n) = omega (arith, none-held n)
 
-pub window-fresh : (f : ℕ) → WindowInv f [] (W.freshBook f)
+pub window-fresh : (g : Given) → WindowInv g [] (W.freshBook (g .first) (share g))
 unfolding W.freshBook placeIn placeOf held handOuts AllNumbered keptOffers emptied
-window-fresh f = record {
+window-fresh g = record {
   first = refl;
   handed = refl;
-  size = length-replicate {A = Place} 64 empty;
-  places = λ n. sym (all-empty 64 (W.distance (W.freshBook f) n));
+  share = refl;
+  size = length-replicate {A = Place} (share g) empty;
+  places = λ n. sym (all-empty (share g) (W.distance (W.freshBook (g .first) (share g)) n));
   numbered = tt;
-  balance = omega (arith, none-held 64);
+  balance = omega (arith, none-held (share g));
 }

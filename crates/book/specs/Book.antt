@@ -6,48 +6,91 @@ use mathlib.Core.List.{List, [], _∷_, _++_}
 use lib.Dec.{ltb, leb, eqb}
 use lib.ListN as ListN
 use lib.ListN.{length, getD, set, drop, replicate}
-use Rattle.field.specs.Field.{pick}
+use Rattle.field.specs.Field.{pick, beAt}
 use Rattle.request_header.specs.Request.{limits, readPdu}
 use Rattle.request_header.specs.Request as Read
+use Rattle.request_header.specs.Kind.{RequestKind, nopOut, scsiCommand, taskManagement, login, kindOf, ifSnack}
+use Rattle.request_header.specs.Kind as Kind
+use Rattle.request_header.specs.declared.Limits.{Limits}
 use Rattle.request_header.specs.declared.Request.{Request}
-use Rattle.request_header.specs.declared.Request.the-variants as Q
+use Rattle.response_header.specs.Response.{maxData}
 use Rattle.response_header.specs.declared.Response.{Response}
 use Rattle.store.specs.Slot.{headerSize}
 use Rattle.window.specs.Book as W
 use Rattle.ledger.specs.Book as L
+use Rattle.ledger.specs.declared.Renewal.{Renewal}
+use Rattle.book.specs.declared.Given.{Given}
+use Rattle.book.specs.declared.Opening.{Opening}
 
 -- "connection number 4 or more" is NOCONN.
 abbrev pub connections : ℕ
 connections = W.connections
 
--- A connection: not open, or open with its ledger.
+-- An open connection: what its PDUs are read by, the longest data that is written on it, and its ledger.
+pub record OpenConnection : Type 0 where
+  pub limits : Limits
+  pub longest : ℕ
+  pub ledger : L.LedgerBook
+
+abbrev pub withLedger : OpenConnection → L.LedgerBook → OpenConnection
+withLedger k l = record { limits = k .limits; longest = k .longest; ledger = l }
+
+-- "From a first StatSN, given at opening"; "its ledger empty".
+unfoldable pub openedBy : Opening → OpenConnection
+openedBy o = record { limits = limits; longest = maxData; ledger = L.freshLedger (o .«stat_sn») }
+
 pub data Connection : Type 0 where
   closed : Connection
-  live : L.LedgerBook → Connection
+  live : OpenConnection → Connection
 
--- level: the ErrorRecoveryLevel; window: the first number, the count of hand-outs and the held numbers; conns: the ledgers
--- of connections 0 to 3, where they are open.
+-- given: what the fresh session was given; window: the count of hand-outs and the held numbers; conns: connections 0 to 3.
 pub record Book : Type 0 where
-  pub level : ℕ
+  pub given : Given
   pub window : W.Book
   pub conns : List Connection
 
+-- How many numbers from the next one on a session may hold: "64 places".
+unfoldable pub share : Given → ℕ
+share g = W.places
+
 -- "A fresh session is given its first number, connection 0's first StatSN and the ErrorRecoveryLevel"; it "has connection 0
 -- open".
-unfoldable pub freshBook : (first statSN level : ℕ) → Book
-freshBook f s v = record { level = v; window = W.freshBook f; conns = live (L.freshLedger s) ∷ closed ∷ closed ∷ closed ∷ [] }
+unfoldable pub freshBook : Given → Book
+freshBook g = record { given = g; window = W.freshBook (g .first) (share g); conns = live (openedBy (g .opening)) ∷ closed ∷ closed ∷ closed ∷ [] }
 
--- The calls with their arguments. The last list of take, send and resend is the output that they lend, as it is before.
+-- What a call lends to be written: the bytes that a header goes into, [] where it lends none.
+pub record Outputs : Type 0 where
+  pub header : List ℕ
+
+abbrev pub outputs : List ℕ → Outputs
+outputs h = record { header = h }
+
+-- The calls with their arguments. `out` is what a call lends, as it is before.
 pub data Call : Type 0 where
   offer : (connection ticket : ℕ) → (pdu : List ℕ) → Call
-  take : (out : List ℕ) → Call
+  take : (out : Outputs) → Call
   logout : (connection reason : ℕ) → Call
-  opening : (connection statSN : ℕ) → Call
-  send : (connection ticket : ℕ) → Response → (out : List ℕ) → Call
+  opening : (connection : ℕ) → Opening → Call
+  send : (connection ticket : ℕ) → Response → (out : Outputs) → Call
   acknowledge : (connection expStatSN : ℕ) → Call
   snack : (connection : ℕ) → (pdu : List ℕ) → Call
-  resend : (connection statSN : ℕ) → (out : List ℕ) → Call
+  resend : (connection statSN : ℕ) → (out : Outputs) → Call
   windowNumbers : Call
+
+-- What a call lends; without an output it is empty.
+abbrev pub noOutputs : Outputs
+noOutputs = outputs []
+
+abbrev pub lent : Call → Outputs
+lent (offer c t p) = noOutputs
+lent (take o) = o
+lent (logout c r) = noOutputs
+lent (opening c g) = noOutputs
+lent (send c t r o) = o
+lent (acknowledge c e) = noOutputs
+lent (snack c p) = noOutputs
+lent (resend c n o) = o
+lent windowNumbers = noOutputs
 
 -- The answers. `refused` has paper 01's number; `window` is what the command window answers to an offer, a take, a logout.
 pub data Answer : Type 0 where
@@ -60,17 +103,36 @@ pub data Answer : Type 0 where
   resent : (ticket : ℕ) → Answer
   numbers : (expCmdSN maxCmdSN : ℕ) → Answer
 
--- The answer to a call, the lent output after it ([] where none is lent), and the book after it.
+-- A refusal of the window is the session's; its other answers are shown as they are.
+abbrev pub fromWindow : W.Answer → Answer
+fromWindow W.kept = window W.kept
+fromWindow W.duplicate = window W.duplicate
+fromWindow W.passed = window W.passed
+fromWindow W.beyond = window W.beyond
+fromWindow W.nothing = window W.nothing
+fromWindow (W.command n t o) = window (W.command n t o)
+fromWindow (W.void n) = window (W.void n)
+fromWindow (W.loggedOut e v) = window (W.loggedOut e v)
+fromWindow (W.refused n) = refused n
+
+-- "where the choice is the program's": what the book takes of a call's answer. Nothing is left to the program today.
+pub data Choice : Type 0 where
+  none : Choice
+
+abbrev pub choiceOf : Answer → Choice
+choiceOf a = Choice.none
+
+-- The answer to a call, what it lent as it is after it, and the book after it.
 pub record Step : Type 0 where
   pub answer : Answer
-  pub bytes : List ℕ
+  pub out : Outputs
   pub book : Book
 
-abbrev pub step : Answer → List ℕ → Book → Step
-step a o b = record { answer = a; bytes = o; book = b }
+abbrev pub step : Answer → Outputs → Book → Step
+step a o b = record { answer = a; out = o; book = b }
 
 -- "A refusal returns its number .. and changes nothing."
-abbrev pub refuse : ℕ → List ℕ → Book → Step
+abbrev pub refuse : ℕ → Outputs → Book → Step
 refuse n o b = step (refused n) o b
 
 -- ---- parts of the book
@@ -79,25 +141,25 @@ unfoldable pub connOf : Book → ℕ → Connection
 connOf b c = getD (b .conns) c closed
 
 unfoldable pub withConn : Book → ℕ → Connection → Book
-withConn b c k = record { level = b .level; window = b .window; conns = set (b .conns) c k }
+withConn b c k = record { given = b .given; window = b .window; conns = set (b .conns) c k }
 
 unfoldable pub withWindow : Book → W.Book → Book
-withWindow b w = record { level = b .level; window = w; conns = b .conns }
+withWindow b w = record { given = b .given; window = w; conns = b .conns }
 
 -- A call that is the window's.
 unfoldable pub byWindow : Book → W.Step → Step
-byWindow b s = step (window (s .answer)) (s .bytes) (withWindow b (s .book))
+byWindow b s = step (fromWindow (s .answer)) (outputs (s .bytes)) (withWindow b (s .book))
 
 -- BUFFER: "a lent output is shorter than 48 bytes"; it comes first.
-unfoldable pub lending : Book → List ℕ → Step → Step
-lending b o s = pick (ltb (length o) headerSize) (refuse 1 o b) s
+unfoldable pub lending : Book → Outputs → Step → Step
+lending b o s = pick (ltb (length (o .header)) headerSize) (refuse 1 o b) s
 
 -- NOCONN, then CLOSED; else what the call does on the open connection.
-unfoldable pub onOpen : Connection → Book → List ℕ → (L.LedgerBook → Step) → Step
+unfoldable pub onOpen : Connection → Book → Outputs → (OpenConnection → Step) → Step
 onOpen closed b o f = refuse 8 o b
-onOpen (live l) b o f = f l
+onOpen (live k) b o f = f k
 
-unfoldable pub onConnection : Book → ℕ → List ℕ → (L.LedgerBook → Step) → Step
+unfoldable pub onConnection : Book → ℕ → Outputs → (OpenConnection → Step) → Step
 onConnection b c o f = pick (ltb c connections) (onOpen (connOf b c) b o f) (refuse 7 o b)
 
 -- ---- offer
@@ -109,31 +171,30 @@ pub data Offered : Type 0 where
   numbered : (cmdSN : ℕ) → Offered
 
 -- "NOP-Out, SCSI Command, Task Management or Logout (others FIELD)".
+abbrev pub isOfferedKind : RequestKind → Bool
+isOfferedKind nopOut = true
+isOfferedKind scsiCommand = true
+isOfferedKind taskManagement = true
+isOfferedKind login = false
+isOfferedKind Kind.logout = true
+isOfferedKind Kind.snack = false
+
 abbrev pub isOffered : Request → Bool
-isOffered (Q.NopOut x) = true
-isOffered (Q.ScsiCommand x) = true
-isOffered (Q.TaskManagement x) = true
-isOffered (Q.Login x) = false
-isOffered (Q.Logout x) = true
-isOffered (Q.Snack x) = false
+isOffered r = isOfferedKind (kindOf r)
 
 -- "I set is immediate, nothing changes. Else it is numbered".
 abbrev pub offeredAs : Read.Answer → Offered
 offeredAs (Read.refused n) = denied n
 offeredAs (Read.got p) = pick (isOffered (p .request)) (pick (p .immediate) atOnce (numbered (p .«cmd_sn»))) (denied 3)
 
--- The CmdSN of a PDU that is read.
-abbrev pub cmdSNOf : Read.Answer → ℕ
-cmdSNOf (Read.refused n) = 0
-cmdSNOf (Read.got p) = p .«cmd_sn»
-
+-- The CmdSN of a command: bytes 24 to 27 of its header.
 unfoldable pub cmdSN : (pdu : List ℕ) → ℕ
-cmdSN pdu = cmdSNOf (readPdu limits pdu)
+cmdSN pdu = beAt pdu 24 4
 
 -- "Its 48 header bytes are what is kept."
 unfoldable pub offerBy : Book → (connection ticket : ℕ) → (pdu : List ℕ) → Offered → Step
-offerBy b c t pdu (denied n) = refuse n [] b
-offerBy b c t pdu atOnce = step immediate [] b
+offerBy b c t pdu (denied n) = refuse n noOutputs b
+offerBy b c t pdu atOnce = step immediate noOutputs b
 offerBy b c t pdu (numbered n) = byWindow b (W.bookStep (b .window) (W.offer n t c (ListN.take headerSize pdu)))
 
 -- ---- logout
@@ -143,38 +204,44 @@ unfoldable pub connsLeft : List Connection → (connection reason : ℕ) → Lis
 connsLeft l c r = pick (eqb r W.closeSession) (replicate connections closed) (set l c closed)
 
 unfoldable pub loggedOut : Book → (connection reason : ℕ) → W.Step → Step
-loggedOut b c r s = step (window (s .answer)) [] (record { level = b .level; window = s .book; conns = connsLeft (b .conns) c r })
+loggedOut b c r s = step (fromWindow (s .answer)) noOutputs (record { given = b .given; window = s .book; conns = connsLeft (b .conns) c r })
 
 -- "Another reason is FIELD."
 unfoldable pub logoutBy : Book → (connection reason : ℕ) → Step
-logoutBy b c r = pick (leb r 2) (loggedOut b c r (W.bookStep (b .window) (W.logout c r))) (refuse 3 [] b)
+logoutBy b c r = pick (leb r 2) (loggedOut b c r (W.bookStep (b .window) (W.logout c r))) (refuse 3 noOutputs b)
 
 -- ---- opening
 
 -- "A closed connection may be opened again, its ledger empty"; "opening what is open" is OPEN.
-unfoldable pub openAt : Connection → Book → (connection statSN : ℕ) → Step
-openAt closed b c n = step opened [] (withConn b c (live (L.freshLedger n)))
-openAt (live l) b c n = refuse 9 [] b
+unfoldable pub openAt : Connection → Book → (connection : ℕ) → Opening → Step
+openAt closed b c g = step opened noOutputs (withConn b c (live (openedBy g)))
+openAt (live k) b c g = refuse 9 noOutputs b
 
 -- ---- send
 
--- A status is stored; a NOP-In that is none is only written.
-unfoldable pub sendAs : Book → (connection ticket : ℕ) → (header out : List ℕ) → L.LedgerBook → L.Sending → Step
-sendAs b c t h o l (L.refused n) = refuse n o b
-sendAs b c t h o l (L.notStored n) = step (sent n) (h ++ drop headerSize o) b
-sendAs b c t h o l (L.stored n) =
-    step (sent n) (h ++ drop headerSize o) (withConn b c (live (L.sent l (record { header = h; ticket = t }))))
+-- The header goes into the first 48 bytes of what is lent for it.
+unfoldable pub written : (header : List ℕ) → Outputs → Outputs
+written h o = outputs (h ++ drop headerSize (o .header))
 
-unfoldable pub sendBy : Book → (connection ticket : ℕ) → Response → (out : List ℕ) → L.LedgerBook → Step
-sendBy b c t r o l =
-    sendAs b c t (L.headerFor l r (W.expCmdSN (b .window)) (W.maxCmdSN (b .window))) o l (L.sending l r)
+-- A status is stored; a NOP-In that is none is only written.
+unfoldable pub sendAs : Book → (connection ticket : ℕ) → (header : List ℕ) → Outputs → OpenConnection → L.Sending → Step
+sendAs b c t h o k (L.refused n) = refuse n o b
+sendAs b c t h o k (L.notStored n) = step (sent n) (written h o) b
+sendAs b c t h o k (L.stored n) =
+    step (sent n) (written h o) (withConn b c (live (withLedger k (L.sent (k .ledger) (record { header = h; ticket = t })))))
+
+unfoldable pub sendBy : Book → (connection ticket : ℕ) → Response → Outputs → OpenConnection → Step
+sendBy b c t r o k =
+    sendAs b c t (L.headerFor (k .ledger) r (W.expCmdSN (b .window)) (W.maxCmdSN (b .window))) o k (L.sending (k .ledger) (k .longest) r)
 
 -- ---- acknowledge
 
 -- "ExpStatSN e is good if ..; it releases those before e." Else STALE.
-unfoldable pub acknowledgeBy : Book → (connection expStatSN : ℕ) → L.LedgerBook → Step
-acknowledgeBy b c e l =
-    pick (L.isGood l e) (step (acknowledged (L.place l e)) [] (withConn b c (live (L.released l e)))) (refuse 11 [] b)
+unfoldable pub acknowledgeBy : Book → (connection expStatSN : ℕ) → OpenConnection → Step
+acknowledgeBy b c e k =
+    pick (L.isGood (k .ledger) e)
+    (step (acknowledged (L.place (k .ledger) e)) noOutputs (withConn b c (live (withLedger k (L.released (k .ledger) e)))))
+    (refuse 11 noOutputs b)
 
 -- ---- SNACK
 
@@ -185,12 +252,7 @@ pub data Asked : Type 0 where
 
 -- "another kind is FIELD"; SNACK for "a SNACK type other than 1, or ErrorRecoveryLevel 0".
 abbrev pub askedBy : (level : ℕ) → Request → Asked
-askedBy v (Q.NopOut x) = deniedRun 3
-askedBy v (Q.ScsiCommand x) = deniedRun 3
-askedBy v (Q.TaskManagement x) = deniedRun 3
-askedBy v (Q.Login x) = deniedRun 3
-askedBy v (Q.Logout x) = deniedRun 3
-askedBy v (Q.Snack x) = pick (eqb (x .«snack_type») 1 && not (eqb v 0)) (from (x .«beg_run») (x .«run_length»)) (deniedRun 12)
+askedBy v = ifSnack (λ x. pick (eqb (x .«snack_type») 1 && not (eqb v 0)) (from (x .«beg_run») (x .«run_length»)) (deniedRun 12)) (deniedRun 3)
 
 abbrev pub asked : (level : ℕ) → Read.Answer → Asked
 asked v (Read.refused n) = deniedRun n
@@ -198,33 +260,36 @@ asked v (Read.got p) = askedBy v (p .request)
 
 -- "The answer is the run's first number and count"; a run that isn't wholly held is SNACK.
 unfoldable pub runStep : Book → L.Run → Step
-runStep b L.notHeld = refuse 12 [] b
-runStep b (L.run f n) = step (run f n) [] b
+runStep b L.notHeld = refuse 12 noOutputs b
+runStep b (L.run f n) = step (run f n) noOutputs b
 
 unfoldable pub snackBy : Book → L.LedgerBook → Asked → Step
-snackBy b l (deniedRun n) = refuse n [] b
+snackBy b l (deniedRun n) = refuse n noOutputs b
 snackBy b l (from f n) = runStep b (L.runOf l f n)
 
 -- ---- resend
 
--- "A resend of a held number, at a level above 0, writes its header and returns its ticket; of any other it is SNACK."
-unfoldable pub shown : Book → (out : List ℕ) → L.Found → Step
-shown b o L.missing = refuse 12 o b
-shown b o (L.found s) =
-    step (resent (s .ticket)) (L.renewed (s .header) (W.expCmdSN (b .window)) (W.maxCmdSN (b .window)) ++ drop headerSize o) b
+-- What a resend renews: "the current numbers".
+abbrev pub renewal : Book → Renewal
+renewal b = record { «exp_cmd_sn» = W.expCmdSN (b .window); «max_cmd_sn» = W.maxCmdSN (b .window) }
 
-unfoldable pub resendBy : Book → (statSN : ℕ) → (out : List ℕ) → L.LedgerBook → Step
-resendBy b n o l = pick (eqb (b .level) 0) (refuse 12 o b) (shown b o (L.statusOf l n))
+-- "A resend of a held number, at a level above 0, writes its header and returns its ticket; of any other it is SNACK."
+unfoldable pub shown : Book → Outputs → L.Found → Step
+shown b o L.missing = refuse 12 o b
+shown b o (L.found s) = step (resent (s .ticket)) (written (L.renewed (s .header) (renewal b)) o) b
+
+unfoldable pub resendBy : Book → (statSN : ℕ) → Outputs → OpenConnection → Step
+resendBy b n o k = pick (eqb (b .given .level) 0) (refuse 12 o b) (shown b o (L.statusOf (k .ledger) n))
 
 -- ---- the step of the book at a call
 
-unfoldable pub bookStep : Book → Call → Step
-bookStep b (offer c t pdu) = onConnection b c [] (λ l. offerBy b c t pdu (offeredAs (readPdu limits pdu)))
-bookStep b (take o) = lending b o (byWindow b (W.bookStep (b .window) (W.take o)))
-bookStep b (logout c r) = onConnection b c [] (λ l. logoutBy b c r)
-bookStep b (opening c n) = pick (ltb c connections) (openAt (connOf b c) b c n) (refuse 7 [] b)
-bookStep b (send c t r o) = lending b o (onConnection b c o (sendBy b c t r o))
-bookStep b (acknowledge c e) = onConnection b c [] (acknowledgeBy b c e)
-bookStep b (snack c pdu) = onConnection b c [] (λ l. snackBy b l (asked (b .level) (readPdu limits pdu)))
-bookStep b (resend c n o) = lending b o (onConnection b c o (resendBy b n o))
-bookStep b windowNumbers = step (numbers (W.expCmdSN (b .window)) (W.maxCmdSN (b .window))) [] b
+unfoldable pub bookStep : Book → Call → Choice → Step
+bookStep b (offer c t pdu) x = onConnection b c noOutputs (λ k. offerBy b c t pdu (offeredAs (readPdu (k .limits) pdu)))
+bookStep b (take o) x = lending b o (byWindow b (W.bookStep (b .window) (W.take (o .header))))
+bookStep b (logout c r) x = onConnection b c noOutputs (λ k. logoutBy b c r)
+bookStep b (opening c g) x = pick (ltb c connections) (openAt (connOf b c) b c g) (refuse 7 noOutputs b)
+bookStep b (send c t r o) x = lending b o (onConnection b c o (sendBy b c t r o))
+bookStep b (acknowledge c e) x = onConnection b c noOutputs (acknowledgeBy b c e)
+bookStep b (snack c pdu) x = onConnection b c noOutputs (λ k. snackBy b (k .ledger) (asked (b .given .level) (readPdu (k .limits) pdu)))
+bookStep b (resend c n o) x = lending b o (onConnection b c o (resendBy b n o))
+bookStep b windowNumbers x = step (numbers (W.expCmdSN (b .window)) (W.maxCmdSN (b .window))) noOutputs b

@@ -6,8 +6,8 @@ use lib.ListN.{replicate}
 use Rattle.field.specs.Field.{bytesOf}
 use Rattle.response_header.specs.declared.Response.the-variants as R
 use Rattle.window.specs.Book as W
-use Rattle.book.specs.Book.{Book, freshBook, Call, offer, take, send, snack, windowNumbers, Answer, window, run, numbers}
-use Rattle.book.specs.Events.{Event, bookRun, bookAfter}
+use Rattle.book.specs.Book.{Book, freshBook, outputs, Call, offer, take, send, snack, windowNumbers, Answer, window, run, numbers, Choice}
+use Rattle.book.specs.Events.{Event, Turn, turn, bookRun, bookAfter}
 
 -- A case: the calls that come before it on a session fresh at 0xfffffffe with connection 0's first StatSN 0xfffffffe and level
 -- 1, the calls of the case, and their answers.
@@ -27,11 +27,11 @@ asks : (begRun runLength : ℕ) → Call
 asks b n = snack 0 (0x10 ∷ 0x81 ∷ replicate 14 0 ++ replicate 8 0xff ++ replicate 16 0 ++ bytesOf 4 b ++ bytesOf 4 n)
 
 takes : Call
-takes = take (replicate 48 0)
+takes = take (outputs (replicate 48 0))
 
 -- A Reject, as a status.
 sends : Call
-sends = send 0 7 (R.Reject (record { reason = 4 })) (replicate 48 0)
+sends = send 0 7 (R.Reject (record { reason = 4 })) (outputs (replicate 48 0))
 
 threeHeld : List Call
 threeHeld = sends ∷ sends ∷ sends ∷ []
@@ -67,11 +67,16 @@ answersOf [] = []
 answersOf (e ∷ es) = e .answer ∷ answersOf es
 
 unfoldable pub fresh : Book
-fresh = freshBook 0xfffffffe 0xfffffffe 1
+fresh = freshBook (record { first = 0xfffffffe; level = 1; opening = record { «stat_sn» = 0xfffffffe } })
+
+-- Calls that leave nothing to the program.
+unfoldable pub turns : List Call → List Turn
+turns [] = []
+turns (c ∷ cs) = turn c Choice.none ∷ turns cs
 
 unfoldable pub found : List Case → List (List Answer)
 found [] = []
-found (c ∷ cs) = answersOf (bookRun (bookAfter fresh (c .before)) (c .calls)) ∷ found cs
+found (c ∷ cs) = answersOf (bookRun (bookAfter fresh (turns (c .before))) (turns (c .calls))) ∷ found cs
 
 unfoldable pub expected : List Case → List (List Answer)
 expected [] = []

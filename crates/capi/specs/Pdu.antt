@@ -4,10 +4,11 @@ use mathlib.Core.List.{List}
 use lib.ListN.{length}
 use lib.Dec.{ltb}
 use Rattle.field.specs.Field.{pick}
-use Rattle.response_header.specs.Response.{Outcome, writing, maxData}
+use Rattle.response_header.specs.Response.{maxData}
+use Rattle.response_writer.specs.Writing.{Outcome, writing}
 use Rattle.response_header.specs.declared.Numbers.{Numbers}
-use Rattle.words.specs.declared.response.Made.{Made}
-use Rattle.words.specs.declared.response.Made.the-variants.{Known, Unknown}
+use Rattle.response_words.specs.declared.Made.{Made}
+use Rattle.response_words.specs.declared.Made.the-variants.{Known, Unknown}
 
 abbrev pub numbersOf : ℕ → ℕ → ℕ → Numbers
 numbersOf s e m = record { «stat_sn» = s; «exp_cmd_sn» = e; «max_cmd_sn» = m }

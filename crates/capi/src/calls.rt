@@ -1,31 +1,33 @@
 // The session's calls for C. A session is its numbers and maps, and the arrays of headers and tickets; each call is lent what it
 // touches. An answer of one value at most goes back in a register, another in four words.
+use answer_words::DONE;
+use answer_words::IMMEDIATE;
+use book::Given;
+use book::Opening;
 use refusal::Refusal;
 use response_header::Response;
-use session::command::OfferAnswer;
-use session::command::TakeAnswer;
-use session::connection::LogoutAnswer;
-use session::connection::OpenAnswer;
-use session::status::AcknowledgeAnswer;
-use session::status::SendAnswer;
-use state_words::answers;
-use state_words::answers::DONE;
-use state_words::answers::IMMEDIATE;
-use state_words::state::close;
-use state_words::state::hold;
-use state_words::state::load;
-use state_words::state::store;
-use state_words::state::store_ledger;
-use state_words::state::store_window;
-use words::response::Made;
-use words::response::response;
-ghost use mathlib.Core.List.{List, []};
-ghost use Prim.Native.Nat.{ℕ};
-ghost use Rattle.book.specs.Book.{Call};
-ghost use Rattle.session.specs.Agree.{state};
-ghost use Rattle.state_words.specs.State.{sessionOf};
-ghost use Rattle.state_words.specs.Answer.{Said, SaidSend, Fresh, packed};
-ghost use Rattle.words.specs.Words.{responseOf};
+use response_words::Made;
+use response_words::response;
+use session_commands::OfferAnswer;
+use session_commands::TakeAnswer;
+use session_connections::LogoutAnswer;
+use session_connections::OpenAnswer;
+use session_statuses::AcknowledgeAnswer;
+use session_statuses::SendAnswer;
+use session_words::close;
+use session_words::load;
+use session_words::store;
+use session_words::store_conn;
+use session_words::store_ledger;
+use session_words::store_window;
+ghost use Rattle.window.specs.Agree.{Commands, commands};
+ghost use Rattle.ledger.specs.Agree.{Statuses, statusesIn};
+ghost use Rattle.book.specs.Book.{Call, outputs, noOutputs};
+ghost use Rattle.session_state.specs.Agree.{state, IsFresh};
+ghost use Rattle.session_words.specs.State.{sessionOf};
+ghost use Rattle.answer_words.specs.Answer.{Said, SaidSend, packed};
+ghost use Rattle.response_words.specs.ResponseWords.{responseOf};
+ghost use Rattle.capi.specs.Given.{openingOf, givenOf};
 
 // Offers a whole PDU with its ticket on a connection.
 #[no_mangle]
@@ -38,15 +40,22 @@ pub extern "C" fn drawbevel_core_offer(
     ticket: u32,
     pdu: &[u8],
 ) -> u64
-    ensures { λ r. ⌜ ((hs ts : List ℕ) → Said (Call.offer conn ticket (now (pdu .entry))) (state (sessionOf (now (n .entry)) (now (m .entry))) (now (headers .entry)) (now (tickets .entry)) hs ts) (packed r) [] (state (sessionOf (now (n .exit)) (now (m .exit))) (now (headers .exit)) (now (tickets .exit)) hs ts)) ⌝ }
+    ensures { λ r. ⌜ ((ss : Statuses)
+        → Said (Call.offer conn ticket (now (pdu .entry)))
+        (state (sessionOf (now (n .entry)) (now (m .entry))) (commands (now (headers .entry)) (now (tickets .entry))) ss)
+        (packed r) noOutputs
+        (state (sessionOf (now (n .exit)) (now (m .exit))) (commands (now (headers .exit)) (now (tickets .exit))) ss)) ⌝ }
 {
     let s = load(n, m);
-    match session::command::offer(s, conn, ticket, pdu, headers, tickets) {
-        OfferAnswer::Refused(f) => answers::pack_refused(f),
-        OfferAnswer::Immediate => answers::pack(IMMEDIATE, 0),
+    let step = session_commands::offer(s, conn, ticket, pdu, headers, tickets);
+    let window = step.window;
+    let a = step.answer;
+    match a {
+        OfferAnswer::Refused(f) => answer_words::pack_refused(f),
+        OfferAnswer::Immediate => answer_words::pack(IMMEDIATE, 0),
         OfferAnswer::Numbered(x) => {
-            hold(m, conn, x);
-            answers::placed(x)
+            store_window(n, m, window);
+            answer_words::placed(x)
         }
     }
 }
@@ -61,19 +70,23 @@ pub extern "C" fn drawbevel_core_take(
     out: &mut [u8],
     answer: &mut [u32; 4],
 )
-    ensures { λ _. ⌜ ((hs ts : List ℕ) → Said (Call.take (now (out .entry))) (state (sessionOf (now (n .entry)) (now (m .entry))) (now (headers .entry)) (now (tickets .entry)) hs ts) (now (answer .exit)) (now (out .exit)) (state (sessionOf (now (n .exit)) (now (m .exit))) (now (headers .entry)) (now (tickets .entry)) hs ts)) ⌝ }
+    ensures { λ _. ⌜ ((ss : Statuses)
+        → Said (Call.take (outputs (now (out .entry))))
+        (state (sessionOf (now (n .entry)) (now (m .entry))) (commands (now (headers .entry)) (now (tickets .entry))) ss)
+        (now (answer .exit)) (outputs (now (out .exit)))
+        (state (sessionOf (now (n .exit)) (now (m .exit))) (commands (now (headers .entry)) (now (tickets .entry))) ss)) ⌝ }
 {
     let s = load(n, m);
-    let step = session::command::take(s, headers, tickets, out);
+    let step = session_commands::take(s, headers, tickets, out);
     let window = step.window;
     let a = step.answer;
     match a {
         TakeAnswer::Refused(f) => {
-            *answer = answers::refused(f);
+            *answer = answer_words::refused(f);
         }
         TakeAnswer::Taken(x) => {
             store_window(n, m, window);
-            *answer = answers::handed_out(x);
+            *answer = answer_words::handed_out(x);
         }
     }
 }
@@ -86,14 +99,19 @@ pub extern "C" fn drawbevel_core_open(
     conn: u32,
     stat_sn: u32,
 ) -> u64
-    ensures { λ r. ⌜ ((h t hs ts : List ℕ) → Said (Call.opening conn «stat_sn») (state (sessionOf (now (n .entry)) (now (m .entry))) h t hs ts) (packed r) [] (state (sessionOf (now (n .exit)) (now (m .exit))) h t hs ts)) ⌝ }
+    ensures { λ r. ⌜ ((k : Commands) (ss : Statuses)
+        → Said (Call.opening conn (openingOf «stat_sn»))
+        (state (sessionOf (now (n .entry)) (now (m .entry))) k ss)
+        (packed r) noOutputs
+        (state (sessionOf (now (n .exit)) (now (m .exit))) k ss)) ⌝ }
 {
     let s = load(n, m);
-    match session::connection::open_connection(s, conn, stat_sn) {
-        OpenAnswer::Refused(f) => answers::pack_refused(f),
-        OpenAnswer::Opened(l) => {
-            store_ledger(n, conn, l);
-            answers::pack(DONE, 0)
+    let given = Opening { stat_sn: stat_sn };
+    match session_connections::open_connection(s, conn, given) {
+        OpenAnswer::Refused(f) => answer_words::pack_refused(f),
+        OpenAnswer::Opened(k) => {
+            store_conn(n, conn, k);
+            answer_words::pack(DONE, 0)
         }
     }
 }
@@ -107,15 +125,19 @@ pub extern "C" fn drawbevel_core_logout(
     reason: u8,
     answer: &mut [u32; 4],
 )
-    ensures { λ _. ⌜ ((h t hs ts : List ℕ) → Said (Call.logout conn reason) (state (sessionOf (now (n .entry)) (now (m .entry))) h t hs ts) (now (answer .exit)) [] (state (sessionOf (now (n .exit)) (now (m .exit))) h t hs ts)) ⌝ }
+    ensures { λ _. ⌜ ((k : Commands) (ss : Statuses)
+        → Said (Call.logout conn reason)
+        (state (sessionOf (now (n .entry)) (now (m .entry))) k ss)
+        (now (answer .exit)) noOutputs
+        (state (sessionOf (now (n .exit)) (now (m .exit))) k ss)) ⌝ }
 {
     let s = load(n, m);
-    let step = session::connection::logout(s, conn, reason);
+    let step = session_connections::logout(s, conn, reason);
     let window = step.window;
     let a = step.answer;
     match a {
         LogoutAnswer::Refused(f) => {
-            *answer = answers::refused(f);
+            *answer = answer_words::refused(f);
         }
         LogoutAnswer::LoggedOut {
             emptied,
@@ -137,14 +159,18 @@ pub extern "C" fn drawbevel_core_acknowledge(
     conn: u32,
     exp_stat_sn: u32,
 ) -> u64
-    ensures { λ r. ⌜ ((h t hs ts : List ℕ) → Said (Call.acknowledge conn «exp_stat_sn») (state (sessionOf (now (n .entry)) (now (m .entry))) h t hs ts) (packed r) [] (state (sessionOf (now (n .exit)) (now (m .exit))) h t hs ts)) ⌝ }
+    ensures { λ r. ⌜ ((k : Commands) (ss : Statuses)
+        → Said (Call.acknowledge conn «exp_stat_sn»)
+        (state (sessionOf (now (n .entry)) (now (m .entry))) k ss)
+        (packed r) noOutputs
+        (state (sessionOf (now (n .exit)) (now (m .exit))) k ss)) ⌝ }
 {
     let s = load(n, m);
-    match session::status::acknowledge(s, conn, exp_stat_sn) {
-        AcknowledgeAnswer::Refused(f) => answers::pack_refused(f),
+    match session_statuses::acknowledge(s, conn, exp_stat_sn) {
+        AcknowledgeAnswer::Refused(f) => answer_words::pack_refused(f),
         AcknowledgeAnswer::Acknowledged { count, ledger } => {
             store_ledger(n, conn, ledger);
-            answers::pack(DONE, count)
+            answer_words::pack(DONE, count)
         }
     }
 }
@@ -158,11 +184,15 @@ pub extern "C" fn drawbevel_core_snack(
     pdu: &[u8],
     answer: &mut [u32; 4],
 )
-    ensures { λ _. ⌜ ((h t hs ts : List ℕ) → Said (Call.snack conn (now (pdu .entry))) (state (sessionOf (now (n .entry)) (now (m .entry))) h t hs ts) (now (answer .exit)) [] (state (sessionOf (now (n .entry)) (now (m .entry))) h t hs ts)) ⌝ }
+    ensures { λ _. ⌜ ((k : Commands) (ss : Statuses)
+        → Said (Call.snack conn (now (pdu .entry)))
+        (state (sessionOf (now (n .entry)) (now (m .entry))) k ss)
+        (now (answer .exit)) noOutputs
+        (state (sessionOf (now (n .entry)) (now (m .entry))) k ss)) ⌝ }
 {
     let s = load(n, m);
-    let a = session::status::snack(s, conn, pdu);
-    *answer = answers::run(a);
+    let a = session_statuses::snack(s, conn, pdu);
+    *answer = answer_words::run(a);
 }
 
 // Sends a held status again, its header with the current window numbers into the first 48 bytes of out.
@@ -176,21 +206,29 @@ pub extern "C" fn drawbevel_core_resend(
     stat_sn: u32,
     out: &mut [u8],
 ) -> u64
-    ensures { λ r. ⌜ ((h t : List ℕ) → Said (Call.resend conn «stat_sn» (now (out .entry))) (state (sessionOf (now (n .entry)) (now (m .entry))) h t (now (statuses .entry)) (now («status_tickets» .entry))) (packed r) (now (out .exit)) (state (sessionOf (now (n .entry)) (now (m .entry))) h t (now (statuses .entry)) (now («status_tickets» .entry)))) ⌝ }
+    ensures { λ r. ⌜ ((k : Commands)
+        → Said (Call.resend conn «stat_sn» (outputs (now (out .entry))))
+        (state (sessionOf (now (n .entry)) (now (m .entry))) k (statusesIn (now (statuses .entry)) (now («status_tickets» .entry))))
+        (packed r) (outputs (now (out .exit)))
+        (state (sessionOf (now (n .entry)) (now (m .entry))) k (statusesIn (now (statuses .entry)) (now («status_tickets» .entry))))) ⌝ }
 {
     let s = load(n, m);
-    let a = session::status::resend(s, conn, stat_sn, statuses, status_tickets, out);
-    answers::resent(a)
+    let a = session_statuses::resend(s, conn, stat_sn, statuses, status_tickets, out);
+    answer_words::resent(a)
 }
 
 // ExpCmdSN and MaxCmdSN.
 #[no_mangle]
 pub extern "C" fn drawbevel_core_window(n: &[u32; 15], m: &[u64; 6], answer: &mut [u32; 4])
-    ensures { λ _. ⌜ ((h t hs ts : List ℕ) → Said Call.windowNumbers (state (sessionOf (now (n .entry)) (now (m .entry))) h t hs ts) (now (answer .exit)) [] (state (sessionOf (now (n .entry)) (now (m .entry))) h t hs ts)) ⌝ }
+    ensures { λ _. ⌜ ((k : Commands) (ss : Statuses)
+        → Said Call.windowNumbers
+        (state (sessionOf (now (n .entry)) (now (m .entry))) k ss)
+        (now (answer .exit)) noOutputs
+        (state (sessionOf (now (n .entry)) (now (m .entry))) k ss)) ⌝ }
 {
     let s = load(n, m);
     let a = session::window_numbers(s);
-    *answer = answers::numbers(a);
+    *answer = answer_words::numbers(a);
 }
 
 fn send_known(
@@ -203,15 +241,19 @@ fn send_known(
     r: Response,
     out: &mut [u8],
 ) -> u64
-    ensures { λ w. ⌜ ((h t : List ℕ) → Said (Call.send conn ticket r (now (out .entry))) (state (sessionOf (now (n .entry)) (now (m .entry))) h t (now (statuses .entry)) (now («status_tickets» .entry))) (packed w) (now (out .exit)) (state (sessionOf (now (n .exit)) (now (m .exit))) h t (now (statuses .exit)) (now («status_tickets» .exit)))) ⌝ }
+    ensures { λ w. ⌜ ((k : Commands)
+        → Said (Call.send conn ticket r (outputs (now (out .entry))))
+        (state (sessionOf (now (n .entry)) (now (m .entry))) k (statusesIn (now (statuses .entry)) (now («status_tickets» .entry))))
+        (packed w) (outputs (now (out .exit)))
+        (state (sessionOf (now (n .exit)) (now (m .exit))) k (statusesIn (now (statuses .exit)) (now («status_tickets» .exit))))) ⌝ }
 {
     let s = load(n, m);
-    match session::status::send(s, conn, ticket, r, out, statuses, status_tickets) {
-        SendAnswer::Refused(f) => answers::pack_refused(f),
-        SendAnswer::Sent(stat_sn) => answers::pack(DONE, stat_sn),
+    match session_statuses::send(s, conn, ticket, r, out, statuses, status_tickets) {
+        SendAnswer::Refused(f) => answer_words::pack_refused(f),
+        SendAnswer::Sent(stat_sn) => answer_words::pack(DONE, stat_sn),
         SendAnswer::Stored { stat_sn, ledger } => {
             store_ledger(n, conn, ledger);
-            answers::pack(DONE, stat_sn)
+            answer_words::pack(DONE, stat_sn)
         }
     }
 }
@@ -228,11 +270,15 @@ pub extern "C" fn drawbevel_core_send(
     words: &[u64; 10],
     out: &mut [u8],
 ) -> u64
-    ensures { λ r. ⌜ ((h t : List ℕ) → SaidSend (responseOf (now (words .entry))) conn ticket (now (out .entry)) (state (sessionOf (now (n .entry)) (now (m .entry))) h t (now (statuses .entry)) (now («status_tickets» .entry))) (packed r) (now (out .exit)) (state (sessionOf (now (n .exit)) (now (m .exit))) h t (now (statuses .exit)) (now («status_tickets» .exit)))) ⌝ }
+    ensures { λ r. ⌜ ((k : Commands)
+        → SaidSend (responseOf (now (words .entry))) conn ticket (outputs (now (out .entry)))
+        (state (sessionOf (now (n .entry)) (now (m .entry))) k (statusesIn (now (statuses .entry)) (now («status_tickets» .entry))))
+        (packed r) (outputs (now (out .exit)))
+        (state (sessionOf (now (n .exit)) (now (m .exit))) k (statusesIn (now (statuses .exit)) (now («status_tickets» .exit))))) ⌝ }
 {
     match response(words) {
         Made::Known(r) => send_known(n, m, statuses, status_tickets, conn, ticket, r, out),
-        Made::Unknown => answers::pack_refused(Refusal::Field),
+        Made::Unknown => answer_words::pack_refused(Refusal::Field),
     }
 }
 
@@ -249,9 +295,15 @@ pub extern "C" fn drawbevel_core_fresh(
     stat_sn: u32,
     level: u8,
 )
-    ensures { λ _. ⌜ Fresh first «stat_sn» level (state (sessionOf (now (n .exit)) (now (m .exit))) (now (headers .exit)) (now (tickets .exit)) (now (statuses .exit)) (now («status_tickets» .exit))) ⌝ }
+    ensures { λ _. ⌜ IsFresh (givenOf first «stat_sn» level)
+        (state (sessionOf (now (n .exit)) (now (m .exit))) (commands (now (headers .exit)) (now (tickets .exit)))
+        (statusesIn (now (statuses .exit)) (now («status_tickets» .exit)))) ⌝ }
 {
-    let f = session::fresh(first, stat_sn, level);
+    let f = session::fresh(Given {
+        first: first,
+        level: level,
+        opening: Opening { stat_sn: stat_sn },
+    });
     let s = f.session;
     let h = f.headers;
     let t = f.tickets;

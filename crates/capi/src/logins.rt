@@ -1,12 +1,10 @@
 // The login phase for C. A login is eight numbers, its settled values and which keys came; each call is lent these, the gather area and
 // the text output.
-use login::state::State;
-use state_words::login_state::answer_words;
-use state_words::login_state::load;
-use state_words::login_state::store;
-ghost use mathlib.Core.Path.{_≡_};
-ghost use Rattle.login.specs.Login.{Outcome, answerOf, loginStep, freshLogin};
-ghost use Rattle.state_words.specs.Login.{loginOf, LoginSaid};
+use login_types::state::State;
+use login_words::store;
+ghost use Rattle.login_book.specs.Login.{loginStep};
+ghost use Rattle.login_types.specs.Agree.{bookOf, IsFresh};
+ghost use Rattle.login_words.specs.Login.{loginOf, LoginSaid};
 
 // A login before its first request.
 #[no_mangle]
@@ -15,7 +13,7 @@ pub extern "C" fn drawbevel_core_login_fresh(
     values: &mut [u32; 12],
     seen: &mut [bool; 28],
 )
-    ensures { λ _. ⌜ loginOf (now (n .exit)) (now (values .exit)) (now (seen .exit)) ≡ freshLogin ⌝ }
+    ensures { λ _. ⌜ IsFresh (loginOf (now (n .exit)) (now (values .exit)) (now (seen .exit))) ⌝ }
 {
     let l = State::fresh();
     store(n, values, seen, l);
@@ -35,12 +33,10 @@ pub extern "C" fn drawbevel_core_login(
     text: &mut [u8],
     answer: &mut [u64; 8],
 )
-    ensures { λ _. ⌜ LoginSaid (loginStep (loginOf (now (n .entry)) (now (values .entry)) (now (seen .entry))) (now (pdu .entry)) live new (now (ours .entry)) (now (gather .entry)) (now (text .entry))) (now (answer .exit)) (loginOf (now (n .exit)) (now (values .exit)) (now (seen .exit))) (now (gather .exit)) (now (text .exit)) ⌝ }
+    ensures { λ _. ⌜ LoginSaid (loginOf (now (n .entry)) (now (values .entry)) (now (seen .entry)))
+        (loginStep (bookOf (loginOf (now (n .entry)) (now (values .entry)) (now (seen .entry))))
+        (now (pdu .entry)) live new (now (ours .entry)) (now (gather .entry)) (now (text .entry)))
+        (now (answer .exit)) (loginOf (now (n .exit)) (now (values .exit)) (now (seen .exit))) (now (gather .exit)) (now (text .exit)) ⌝ }
 {
-    let l = load(n, values, seen);
-    let step = login::request::login_request(l, pdu, live, new, ours, gather, text);
-    let after = step.state;
-    store(n, values, seen, after);
-    let a = step.answer;
-    *answer = answer_words(a);
+    login_words::request(n, values, seen, pdu, live, new, ours, gather, text, answer);
 }

@@ -3,13 +3,14 @@ use request_header::LIMITS;
 use response_header::MAX_DATA;
 use response_header::Numbers;
 use response_header::Response;
-use response_header::WriteAnswer;
-use words::response::Made;
-use words::response::response;
+use response_words::Made;
+use response_words::response;
+use response_writer::WriteAnswer;
 ghost use mathlib.Core.Path.{_≡_};
 ghost use Rattle.request_header.specs.Request.{limits, readPdu};
-ghost use Rattle.response_header.specs.Response.{Outcome};
-ghost use Rattle.words.specs.Words.{responseOf, ReadWords, readWords};
+ghost use Rattle.response_writer.specs.Writing.{Outcome};
+ghost use Rattle.request_words.specs.RequestWords.{ReadWords, readWords};
+ghost use Rattle.response_words.specs.ResponseWords.{responseOf};
 ghost use Rattle.capi.specs.Pdu.{writeWords, numbersOf};
 
 // Reads a PDU: 0 and its words, or the refusal's number, which leaves both arrays as they were.
@@ -21,13 +22,13 @@ pub extern "C" fn drawbevel_core_read(
 ) -> u32
     ensures { λ r. ⌜ _≡_ {A = ReadWords} (record { answer = r; common = now (common .exit); own = now (own .exit) }) (readWords (readPdu limits (now (input .entry))) (now (common .entry)) (now (own .entry))) ⌝ }
 {
-    words::request::read(input, LIMITS, common, own)
+    request_words::read(input, LIMITS, common, own)
 }
 
 fn write_known(out: &mut [u8], r: Response, n: Numbers) -> u32
-    ensures { λ k. ⌜ _≡_ {A = Outcome} (record { answer = k; bytes = now (out .exit) }) (Rattle.response_header.specs.Response.writing 8192 (now (out .entry)) r n) ⌝ }
+    ensures { λ k. ⌜ _≡_ {A = Outcome} (record { answer = k; bytes = now (out .exit) }) (Rattle.response_writer.specs.Writing.writing 8192 (now (out .entry)) r n) ⌝ }
 {
-    match response_header::write::write(out, r, n, MAX_DATA) {
+    match response_writer::write(out, r, n, MAX_DATA) {
         WriteAnswer::Refused(f) => refusal::number_of(f) as u32,
         WriteAnswer::Written => 0,
     }

@@ -11,8 +11,8 @@ use lib.Dec.{T, eqb, ltb, lit<}
 use lib.ListN.{length, getD}
 use Rattle.field.specs.Field.{beAt, bytesOf, pick, bit, byte}
 use Rattle.header_tables.specs.Table.{Fits, sound, written, readBy, count, named, filled}
-use Rattle.header_tables.specs.Layout.{Kind, nopOut, scsiCommand, taskManagement, login, logout, snack, nopIn, scsiResponse, taskManagementResponse, loginResponse, logoutResponse, reject, tableOf, bitOf, kindOf, requestKind, responseFields, requestFields, ResponseFits, NumbersFit}
-use Rattle.response_header.specs.Response.{headerBytes, ownFields, weigh, refusalIn, dataLengthIn, fieldsFit}
+use Rattle.header_tables.specs.Layout.{Kind, nopOut, scsiCommand, taskManagement, login, logout, snack, nopIn, scsiResponse, taskManagementResponse, loginResponse, logoutResponse, reject, tableOf, bitOf, responseKind, requestKind, responseFields, requestFields, ResponseFits, NumbersFit}
+use Rattle.response_header.specs.Response.{headerBytes, kindFields, weigh, refusalIn, dataLengthIn, fieldsFit}
 use Rattle.request_header.specs.Request.{readPdu, got, known, opcodeOf, sharedOk, pduOf, requestOf}
 use Rattle.request_header.specs.declared.Limits.{Limits}
 use Rattle.request_header.specs.declared.Pdu.{Pdu}
@@ -40,7 +40,7 @@ sound-all reject = tt
 
 -- the values of the rows, field by field
 abbrev pub values : Response → Numbers → List (List ℕ)
-values r n = filled (tableOf (kindOf r)) (responseFields r n)
+values r n = filled (tableOf (responseKind r)) (responseFields r n)
 
 scsi-flags : (o u : Bool) → 0x80 + weigh o 4 + weigh u 2 ≡ 0 + 2 * (bitOf u + 2 * (bitOf o + 2 * (0 + 16 * 1)))
 scsi-flags true true = refl
@@ -53,8 +53,8 @@ login-flags true c n = omega arith
 login-flags false c n = omega arith
 
 -- a response's 48 bytes are its table's
-pub response-written : (r : Response) (n : Numbers) → headerBytes r n ≡ written (tableOf (kindOf r)) (values r n)
-unfolding headerBytes ownFields bytesOf
+pub response-written : (r : Response) (n : Numbers) → headerBytes r n ≡ written (tableOf (responseKind r)) (values r n)
+unfolding headerBytes kindFields bytesOf
 response-written (R.NopIn r) n = refl
 response-written (R.ScsiResponse r) n = rw (← (scsi-flags (r .overflow) (r .underflow)))
 response-written (R.TaskManagementResponse r) n = refl
@@ -62,7 +62,7 @@ response-written (R.LoginResponse r) n = rw (← (login-flags (r .transit) (r .c
 response-written (R.LogoutResponse r) n = refl
 response-written (R.Reject r) n = refl
 
-counted : (r : Response) (n : Numbers) → length (responseFields r n) ≡ count (tableOf (kindOf r))
+counted : (r : Response) (n : Numbers) → length (responseFields r n) ≡ count (tableOf (responseKind r))
 counted (R.NopIn r) n = refl
 counted (R.ScsiResponse r) n = refl
 counted (R.TaskManagementResponse r) n = refl
@@ -71,10 +71,10 @@ counted (R.LogoutResponse r) n = refl
 counted (R.Reject r) n = refl
 
 -- and its table reads its fields back from them
-pub response-back : (r : Response) (n : Numbers) (q : List ℕ) → Fits (tableOf (kindOf r)) (values r n) → named (tableOf (kindOf r)) (readBy (tableOf (kindOf r)) (headerBytes r n ++ q)) ≡ responseFields r n
+pub response-back : (r : Response) (n : Numbers) (q : List ℕ) → Fits (tableOf (responseKind r)) (values r n) → named (tableOf (responseKind r)) (readBy (tableOf (responseKind r)) (headerBytes r n ++ q)) ≡ responseFields r n
 response-back r n q f =
-    let t = tableOf (kindOf r) in
-    rw (response-written r n, back 0 t (values r n) [] q (sound-all (kindOf r)) refl f) (named-filled t (responseFields r n) (counted r n))
+    let t = tableOf (responseKind r) in
+    rw (response-written r n, back 0 t (values r n) [] q (sound-all (responseKind r)) refl f) (named-filled t (responseFields r n) (counted r n))
 
 refusal-zero : (a b : Bool) → _≡_ {A = ℕ} (pick a 5 (pick b 0 3)) 0 → (a ≡ false) × (b ≡ true)
 refusal-zero true b e = absurd (omega arith)
@@ -96,7 +96,7 @@ bit-lt true = lit< tt
 bit-lt false = lit< tt
 
 -- a response that is not refused fits its table
-pub response-fits : (max : ℕ) (r : Response) (n : Numbers) → max < 2 ^ 24 → refusalIn max r ≡ 0 → ResponseFits r → NumbersFit n → Fits (tableOf (kindOf r)) (values r n)
+pub response-fits : (max : ℕ) (r : Response) (n : Numbers) → max < 2 ^ 24 → refusalIn max r ≡ 0 → ResponseFits r → NumbersFit n → Fits (tableOf (responseKind r)) (values r n)
 response-fits max (R.NopIn r) n m e f g = omega (arith, unrefused max (R.NopIn r) e .0)
 response-fits max (R.ScsiResponse r) n m e f g = (omega arith, (omega (arith, bit-lt (r .overflow), bit-lt (r .underflow)), omega (arith, unrefused max (R.ScsiResponse r) e .0)))
 response-fits max (R.TaskManagementResponse r) n m e f g = omega arith

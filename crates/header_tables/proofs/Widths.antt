@@ -12,11 +12,11 @@ use Rattle.request_header.specs.Request.{readPdu, got, opcodeOf, pduOf, request
 use Rattle.request_header.specs.declared.Pdu.{Pdu}
 use Rattle.request_header.specs.declared.Limits.{Limits}
 use Rattle.request_header.proofs.Reading.{got-all}
-use Rattle.response_header.specs.Response.{ownFields, headerBytes}
+use Rattle.response_header.specs.Response.{kindFields, headerBytes}
 use Rattle.response_header.specs.declared.Numbers.{Numbers}
 use Rattle.response_header.specs.declared.Response.{Response}
 use Rattle.response_header.specs.declared.Response.the-variants as R
-use Rattle.header_tables.specs.Layout.{PduFits, RequestFits, opcode, kindOf}
+use Rattle.header_tables.specs.Layout.{PduFits, RequestFits, opcode, responseKind}
 
 -- what holds of both holds of the one that is picked
 either : {A : Type 0} (P : A → Type 0) (b : Bool) {x y : A} → P x → P y → P (pick b x y)
@@ -45,8 +45,8 @@ got-fits m s p e h =
     })
 
 -- its first byte is its kind's opcode
-pub header-opcode : (r : Response) (n : Numbers) → getD (headerBytes r n) 0 0 ≡ opcode (kindOf r)
-unfolding headerBytes ownFields bytesOf
+pub header-opcode : (r : Response) (n : Numbers) → getD (headerBytes r n) 0 0 ≡ opcode (responseKind r)
+unfolding headerBytes kindFields bytesOf
 header-opcode (R.NopIn r) n = refl
 header-opcode (R.ScsiResponse r) n = refl
 header-opcode (R.TaskManagementResponse r) n = refl

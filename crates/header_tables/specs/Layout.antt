@@ -140,13 +140,13 @@ fieldsFor p (Q.Snack x) =
 abbrev pub requestFields : Pdu → List ℕ
 requestFields p = fieldsFor p (p .request)
 
-abbrev pub kindOf : Response → Kind
-kindOf (R.NopIn r) = nopIn
-kindOf (R.ScsiResponse r) = scsiResponse
-kindOf (R.TaskManagementResponse r) = taskManagementResponse
-kindOf (R.LoginResponse r) = loginResponse
-kindOf (R.LogoutResponse r) = logoutResponse
-kindOf (R.Reject r) = reject
+abbrev pub responseKind : Response → Kind
+responseKind (R.NopIn r) = nopIn
+responseKind (R.ScsiResponse r) = scsiResponse
+responseKind (R.TaskManagementResponse r) = taskManagementResponse
+responseKind (R.LoginResponse r) = loginResponse
+responseKind (R.LogoutResponse r) = logoutResponse
+responseKind (R.Reject r) = reject
 
 abbrev numbersThen : Numbers → List ℕ → List ℕ
 numbersThen n vs = n .«stat_sn» ∷ n .«exp_cmd_sn» ∷ n .«max_cmd_sn» ∷ vs

@@ -1,7 +1,8 @@
 // Responses at each rule's boundary, written into a lent buffer of 52 bytes 0xee.
-use crate::show::refused;
-use crate::text::put;
-use crate::text::put_byte;
+use print::part;
+use print::put;
+use print::put_refused;
+use print::put_with;
 use response_header::LoginResponse;
 use response_header::LogoutResponse;
 use response_header::MAX_DATA;
@@ -11,7 +12,36 @@ use response_header::Reject;
 use response_header::Response;
 use response_header::ScsiResponse;
 use response_header::TaskManagementResponse;
-use response_header::WriteAnswer;
+use response_writer::WriteAnswer;
+
+// A vector's name; they are numbered in the order in which they are written.
+fn put_name(vector: usize) {
+    put(part(
+        b"nop-in of 8192 bytes: \
+          |into 48 bytes: \
+          |task management response: \
+          |logout response: \
+          |reject: \
+          |scsi response, neither O nor U: \
+          |scsi response, O: \
+          |scsi response, U: \
+          |login response, T: \
+          |login response, no T: \
+          |into 47 bytes: \
+          |nop-in of 8193 bytes: \
+          |scsi response, O and U: \
+          |scsi response, O and U, 8193 bytes: \
+          |login response, csg 4: \
+          |login response, nsg 4: \
+          |login response, nsg without T: \
+          |login response, isid of 49 bits: ",
+        vector,
+    ));
+}
+
+fn put_byte(b: u8) {
+    put_with(b"%1", &[b as u64]);
+}
 
 fn put_bytes(bytes: &[u8]) {
     let mut i = 0;
@@ -32,23 +62,23 @@ fn write_first(buffer: &mut [u8], size: usize, r: Response) {
         exp_cmd_sn: 0x1112_1314,
         max_cmd_sn: 0x2122_2324,
     };
-    match response_header::write::write(&mut buffer[0..size], r, numbers, MAX_DATA) {
+    match response_writer::write(&mut buffer[0..size], r, numbers, MAX_DATA) {
         WriteAnswer::Written => put(b"written\n"),
-        WriteAnswer::Refused(f) => refused(f),
+        WriteAnswer::Refused(f) => put_refused(f),
     }
 }
 
 // What writing answers where this many of the 52 bytes are lent, and all 52 after it.
-fn lent(name: &[u8], r: Response, size: usize) {
+fn lent(vector: usize, r: Response, size: usize) {
     let mut out = [0xeeu8; 52];
-    put(name);
+    put_name(vector);
     write_first(&mut out, size, r);
     put_bytes(&out);
 }
 
-fn nop_in(name: &[u8], length: u32, size: usize) {
+fn nop_in(vector: usize, length: u32, size: usize) {
     lent(
-        name,
+        vector,
         Response::NopIn(NopIn {
             data_segment_length: length,
             lun: 0x8182_8384_8586_8788,
@@ -59,9 +89,9 @@ fn nop_in(name: &[u8], length: u32, size: usize) {
     );
 }
 
-fn scsi_response(name: &[u8], overflow: bool, underflow: bool, length: u32) {
+fn scsi_response(vector: usize, overflow: bool, underflow: bool, length: u32) {
     lent(
-        name,
+        vector,
         Response::ScsiResponse(ScsiResponse {
             overflow: overflow,
             underflow: underflow,
@@ -76,9 +106,9 @@ fn scsi_response(name: &[u8], overflow: bool, underflow: bool, length: u32) {
     );
 }
 
-fn login_response(name: &[u8], transit: bool, csg: u8, nsg: u8, isid: u64) {
+fn login_response(vector: usize, transit: bool, csg: u8, nsg: u8, isid: u64) {
     lent(
-        name,
+        vector,
         Response::LoginResponse(LoginResponse {
             transit: transit,
             csg: csg,
@@ -96,7 +126,7 @@ fn login_response(name: &[u8], transit: bool, csg: u8, nsg: u8, isid: u64) {
 
 fn others() {
     lent(
-        b"task management response: ",
+        2,
         Response::TaskManagementResponse(TaskManagementResponse {
             response: 0x51,
             initiator_task_tag: 0x3132_3334,
@@ -104,7 +134,7 @@ fn others() {
         52,
     );
     lent(
-        b"logout response: ",
+        3,
         Response::LogoutResponse(LogoutResponse {
             response: 0x51,
             initiator_task_tag: 0x3132_3334,
@@ -113,32 +143,26 @@ fn others() {
         }),
         52,
     );
-    lent(b"reject: ", Response::Reject(Reject { reason: 0x51 }), 52);
+    lent(4, Response::Reject(Reject { reason: 0x51 }), 52);
 }
 
 pub fn run_all() {
     put(b"# written: 48 bytes and those that stay\n");
-    nop_in(b"nop-in of 8192 bytes: ", 8192, 52);
-    nop_in(b"into 48 bytes: ", 0, 48);
+    nop_in(0, 8192, 52);
+    nop_in(1, 0, 48);
     others();
-    scsi_response(b"scsi response, neither O nor U: ", false, false, 4);
-    scsi_response(b"scsi response, O: ", true, false, 4);
-    scsi_response(b"scsi response, U: ", false, true, 4);
-    login_response(b"login response, T: ", true, 1, 3, 0xffff_ffff_ffff);
-    login_response(b"login response, no T: ", false, 3, 0, 0x8081_8283_8485);
+    scsi_response(5, false, false, 4);
+    scsi_response(6, true, false, 4);
+    scsi_response(7, false, true, 4);
+    login_response(8, true, 1, 3, 0xffff_ffff_ffff);
+    login_response(9, false, 3, 0, 0x8081_8283_8485);
     put(b"# refused, and every byte stays\n");
-    nop_in(b"into 47 bytes: ", 9000, 47);
-    nop_in(b"nop-in of 8193 bytes: ", 8193, 52);
-    scsi_response(b"scsi response, O and U: ", true, true, 8192);
-    scsi_response(b"scsi response, O and U, 8193 bytes: ", true, true, 8193);
-    login_response(b"login response, csg 4: ", true, 4, 3, 0);
-    login_response(b"login response, nsg 4: ", true, 1, 4, 0);
-    login_response(b"login response, nsg without T: ", false, 1, 3, 0);
-    login_response(
-        b"login response, isid of 49 bits: ",
-        true,
-        1,
-        3,
-        0x1_0000_0000_0000,
-    );
+    nop_in(10, 9000, 47);
+    nop_in(11, 8193, 52);
+    scsi_response(12, true, true, 8192);
+    scsi_response(13, true, true, 8193);
+    login_response(14, true, 4, 3, 0);
+    login_response(15, true, 1, 4, 0);
+    login_response(16, false, 1, 3, 0);
+    login_response(17, true, 1, 3, 0x1_0000_0000_0000);
 }

@@ -1,8 +1,8 @@
 // A read PDU as one line: its kind and its fields.
-use crate::text::put;
-use crate::text::put_decimal;
-use crate::text::put_hex;
-use refusal::Refusal;
+use print::part;
+use print::put;
+use print::put_refused;
+use print::put_with;
 use request_header::Login;
 use request_header::Logout;
 use request_header::NopOut;
@@ -13,93 +13,99 @@ use request_header::ScsiCommand;
 use request_header::Snack;
 use request_header::TaskManagement;
 
-pub fn word(name: &[u8], v: u32) {
-    put(name);
-    put(b"0x");
-    put_hex(v as u64, 8);
-}
-
-fn long(name: &[u8], v: u64) {
-    put(name);
-    put(b"0x");
-    put_hex(v, 16);
-}
-
-fn half(name: &[u8], v: u16) {
-    put(name);
-    put(b"0x");
-    put_hex(v as u64, 4);
-}
-
-fn small(name: &[u8], v: u8) {
-    put(name);
-    put_decimal(v as u64);
-}
-
-fn flag(name: &[u8], v: bool) {
-    put(name);
-    if v {
-        put(b"1");
-    } else {
-        put(b"0");
-    }
-}
-
-fn kind(r: Request) {
+fn kind(r: Request) -> usize {
     match r {
-        Request::NopOut(_) => put(b"nop-out"),
-        Request::ScsiCommand(_) => put(b"scsi-command"),
-        Request::TaskManagement(_) => put(b"task-management"),
-        Request::Login(_) => put(b"login"),
-        Request::Logout(_) => put(b"logout"),
-        Request::Snack(_) => put(b"snack"),
+        Request::NopOut(_) => 0,
+        Request::ScsiCommand(_) => 1,
+        Request::TaskManagement(_) => 2,
+        Request::Login(_) => 3,
+        Request::Logout(_) => 4,
+        Request::Snack(_) => 5,
     }
 }
 
-fn scsi_command(x: ScsiCommand) {
-    flag(b" f=", x.is_final);
-    flag(b" r=", x.is_read);
-    flag(b" w=", x.is_write);
-    small(b" attribute=", x.attribute);
-    word(b" edtl=", x.expected_data_transfer_length);
-    long(b" cdb0=", x.cdb_0);
-    long(b" cdb1=", x.cdb_1);
-    small(b" ahs=", x.total_ahs_length);
-}
-
-fn task_management(x: TaskManagement) {
-    small(b" function=", x.function);
-    word(b" rtt=", x.referenced_task_tag);
-    word(b" refcmdsn=", x.ref_cmd_sn);
-    word(b" expdatasn=", x.exp_data_sn);
-}
-
-fn login(x: Login) {
-    flag(b" t=", x.transit);
-    flag(b" c=", x.continues);
-    small(b" csg=", x.csg);
-    small(b" nsg=", x.nsg);
-    small(b" versionmax=", x.version_max);
-    small(b" versionmin=", x.version_min);
-    long(b" isid=", x.isid);
-    half(b" tsih=", x.tsih);
-    half(b" cid=", x.cid);
-}
-
-fn logout(x: Logout) {
-    small(b" reason=", x.reason);
-    half(b" cid=", x.cid);
-}
-
-fn snack(x: Snack) {
-    small(b" type=", x.snack_type);
-    word(b" ttt=", x.target_transfer_tag);
-    word(b" begrun=", x.beg_run);
-    word(b" runlength=", x.run_length);
+// The kind, and the fields that each kind has.
+fn common(p: Pdu) {
+    let r = p.request;
+    put(part(
+        b"nop-out|scsi-command|task-management|login|logout|snack",
+        kind(r),
+    ));
+    put_with(
+        b" i=%d cmdsn=0x%4 lun=0x%8 itt=0x%4 expstatsn=0x%4",
+        &[
+            p.immediate as u64,
+            p.cmd_sn as u64,
+            p.lun,
+            p.initiator_task_tag as u64,
+            p.exp_stat_sn as u64,
+        ],
+    );
 }
 
 fn nop_out(x: NopOut) {
-    word(b" ttt=", x.target_transfer_tag);
+    put_with(b" ttt=0x%4", &[x.target_transfer_tag as u64]);
+}
+
+fn scsi_command(x: ScsiCommand) {
+    put_with(
+        b" f=%d r=%d w=%d attribute=%d edtl=0x%4 cdb0=0x%8 cdb1=0x%8 ahs=%d",
+        &[
+            x.is_final as u64,
+            x.is_read as u64,
+            x.is_write as u64,
+            x.attribute as u64,
+            x.expected_data_transfer_length as u64,
+            x.cdb_0,
+            x.cdb_1,
+            x.total_ahs_length as u64,
+        ],
+    );
+}
+
+fn task_management(x: TaskManagement) {
+    put_with(
+        b" function=%d rtt=0x%4 refcmdsn=0x%4 expdatasn=0x%4",
+        &[
+            x.function as u64,
+            x.referenced_task_tag as u64,
+            x.ref_cmd_sn as u64,
+            x.exp_data_sn as u64,
+        ],
+    );
+}
+
+fn login(x: Login) {
+    put_with(
+        b" t=%d c=%d csg=%d nsg=%d versionmax=%d versionmin=%d isid=0x%8 tsih=0x%2 cid=0x%2",
+        &[
+            x.transit as u64,
+            x.continues as u64,
+            x.csg as u64,
+            x.nsg as u64,
+            x.version_max as u64,
+            x.version_min as u64,
+            x.isid,
+            x.tsih as u64,
+            x.cid as u64,
+        ],
+    );
+}
+
+fn logout(x: Logout) {
+    put_with(b" reason=%d cid=0x%2", &[x.reason as u64, x.cid as u64]);
+}
+
+fn snack(x: Snack) {
+    put_with(
+        b" type=%d ttt=0x%4 begrun=0x%4 runlength=0x%4",
+        &[
+            x.snack_type as u64,
+            x.target_transfer_tag as u64,
+            x.beg_run as u64,
+            x.run_length as u64,
+        ],
+    );
 }
 
 fn own(r: Request) {
@@ -115,29 +121,17 @@ fn own(r: Request) {
 
 fn pdu(p: Pdu) {
     let r = p.request;
-    kind(r);
-    flag(b" i=", p.immediate);
-    word(b" cmdsn=", p.cmd_sn);
-    long(b" lun=", p.lun);
-    word(b" itt=", p.initiator_task_tag);
-    word(b" expstatsn=", p.exp_stat_sn);
+    common(p);
     own(r);
-    put(b" data=");
-    put_decimal(p.data_start as u64);
-    put(b"+");
-    put_decimal(p.data_segment_length as u64);
-    put(b"\n");
-}
-
-pub fn refused(f: Refusal) {
-    put(b"refused ");
-    put_decimal(refusal::number_of(f) as u64);
-    put(b"\n");
+    put_with(
+        b" data=%d+%d\n",
+        &[p.data_start as u64, p.data_segment_length as u64],
+    );
 }
 
 pub fn answer(a: ReadAnswer) {
     match a {
         ReadAnswer::Got(p) => pdu(p),
-        ReadAnswer::Refused(f) => refused(f),
+        ReadAnswer::Refused(f) => put_refused(f),
     }
 }

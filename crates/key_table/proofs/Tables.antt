@@ -8,12 +8,10 @@ use lib.ListN.{take, drop, getD, length}
 use native.Mathlib.Nat.{not-suc-le-zero, le-of-suc-le-suc}
 use lib.Dec.{leb, ltb, eqb}
 use borrow.Author.Tests.{leb-true, ltb-true, le-ltb, eqb-true, eq-eqb, ne-eqb}
-use Rattle.text.specs.Text.{bytes, same}
+use Rattle.text.specs.Text.{bytes, same, pick, all}
 use Rattle.text.proofs.Laws.{below, at, same-eq, &&-left, &&-right, false-true}
-use Rattle.text.specs.Text.{pick, all}
-use Rattle.text.specs.Block.{goodName, nameByte}
-use Rattle.key_table.specs.Table.{Known, known, key, keyOf, nameAt, kindAt, placeIn, row, rows, rowAt}
-use Rattle.key_table.specs.Table.{isBool}
+use Rattle.text_block.specs.Block.{goodName, nameByte}
+use Rattle.key_table.specs.Table.{Known, known, key, keyOf, nameAt, kindAt, placeIn, row, rows, rowAt, isBool}
 use Rattle.key_table.specs.declared.table.Kind.{Kind}
 use Rattle.key_table.specs.declared.table.Kind.the-variants as K
 use Rattle.key_table.specs.declared.table.Rule.{Rule}
@@ -144,7 +142,7 @@ module _ (k : ℕ) (h : k < 28) where
   unfolding hashed formed-name
   key-formed = &&-right (alone k) _ (&&-right (placed k && long-enough k) _ (at hashed 28 hashes k h))
 
-same-refl : (n : List ℕ) → same n n ≡ true
+pub same-refl : (n : List ℕ) → same n n ≡ true
 unfolding same
 same-refl [] = refl
 same-refl (x ∷ n) = rw (eq-eqb x x refl) (same-refl n)

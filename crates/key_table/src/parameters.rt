@@ -1,7 +1,6 @@
 // The settled parameters: one value for each of the twelve keys of the table. Yes is 1, No is 0.
 ghost use mathlib.Core.Path.{_≡_};
-ghost use Rattle.key_table.specs.Table.{standards, own};
-ghost use Rattle.key_table.specs.Table.{noneSeen};
+ghost use Rattle.key_table.specs.Table.{standards, own, noneSeen};
 
 pub const MAX_CONNECTIONS: usize = 0;
 

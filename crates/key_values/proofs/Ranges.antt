@@ -7,12 +7,12 @@ use native.Mathlib.Omega.{arith}
 use borrow.Author.Tests.{leb-true, ltb-false, eqb-true}
 use lib.Dec.{eqb, ltb, leb}
 use Rattle.text.specs.Text.{pick}
-use Rattle.text.specs.declared.number.Number.{Number}
-use Rattle.text.specs.declared.number.Number.the-variants as N
+use Rattle.text_number.specs.declared.number.Number.{Number}
+use Rattle.text_number.specs.declared.number.Number.the-variants as N
 use Rattle.text.proofs.Laws.{below, at, &&-left, &&-right}
 use Rattle.key_table.specs.Table.{rows, rowAt, isBool}
 use Rattle.key_values.specs.Settle.{In, boolOf, ranged, offered, settledBy, settlingOffer, settling}
-use Rattle.text.specs.Number.{numberOf}
+use Rattle.text_number.specs.Number.{numberOf}
 use Rattle.key_table.specs.declared.table.Rule.{Rule}
 use Rattle.key_table.specs.declared.table.Rule.the-variants as R
 use Rattle.key_table.specs.declared.table.Row.{Row}

@@ -4,11 +4,10 @@ use mathlib.Core.Bool.{Bool, true, false, _&&_, _||_}
 use mathlib.Core.List.{List}
 use lib.ListN.{set, replicate, getD}
 use lib.Dec.{eqb, ltb, leb}
-use Rattle.text.specs.Text.{pick, bytes, same}
-use Rattle.text.specs.Block.{within}
-use Rattle.text.specs.Number.{numberOf}
-use Rattle.text.specs.declared.number.Number.{Number}
-use Rattle.text.specs.declared.number.Number.the-variants as N
+use Rattle.text.specs.Text.{pick, bytes, same, within}
+use Rattle.text_number.specs.Number.{numberOf}
+use Rattle.text_number.specs.declared.number.Number.{Number}
+use Rattle.text_number.specs.declared.number.Number.the-variants as N
 use Rattle.key_table.specs.Table.{isBool}
 use Rattle.key_table.specs.declared.table.Rule.{Rule}
 use Rattle.key_table.specs.declared.table.Rule.the-variants as R

@@ -1,13 +1,13 @@
 // The value of a key of the table: the offer within its range, and what it settles with ours.
 use key_table::table::Rule;
 use key_table::table::row_of;
-use text::number::Number;
-use text::number::number_of;
 use text::slice::same_bytes;
+use text_number::number::Number;
+use text_number::number::number_of;
 ghost use mathlib.Core.Path.{_≡_};
 ghost use Prim.Native.Nat.{_<_};
 ghost use Rattle.text.specs.Text.{pick};
-ghost use Rattle.text.specs.Number.{numberOf};
+ghost use Rattle.text_number.specs.Number.{numberOf};
 ghost use Rattle.key_table.specs.Table.{rowAt, isBool};
 ghost use Rattle.key_values.specs.Settle.{boolOf, ranged, settledBy, yesNo, replyFor, settling};
 

@@ -1,20 +1,18 @@
--- A pair of a block, judged: what refuses it, what it is answered, and what is settled after it.
+-- A pair of a block, judged: what refuses it, and what it is answered.
 use Prim.Native.Nat.{ℕ}
 use mathlib.Core.Bool.{Bool, true, false, not, _&&_}
 use mathlib.Core.List.{List}
-use lib.ListN.{length, getD, set}
+use lib.ListN.{length}
 use lib.Dec.{eqb}
-use Rattle.text.specs.Text.{pick, bytes, same, listed}
-use Rattle.text.specs.Block.{within}
-use Rattle.key_table.specs.Table.{keyOf, kindAt, rowAt}
-use Rattle.key_values.specs.Settle.{settling, valued}
+use Rattle.text.specs.Text.{pick, bytes, same, listed, within}
+use Rattle.key_table.specs.Table.{kindAt, rowAt}
+use Rattle.key_values.specs.Settle.{settling}
 use Rattle.key_table.specs.declared.table.Kind.{Kind}
 use Rattle.key_table.specs.declared.table.Kind.the-variants as K
 use Rattle.key_values.specs.declared.value.Reply.{Reply}
 use Rattle.key_values.specs.declared.value.Reply.the-variants as A
 use Rattle.key_values.specs.declared.value.Judgement.{Judgement}
 use Rattle.key_values.specs.declared.value.Judgement.the-variants as J
-use Rattle.key_table.specs.declared.parameters.Settled.{Settled}
 
 -- InitiatorName and TargetName: 1 to 223 bytes, else 0x0200
 abbrev pub goodLength : List ℕ → Bool
@@ -93,26 +91,6 @@ judgeKey seen stage leading ours k v =
     (pick seen (J.Refused 0x0200)
     (judgeBy (kindAt k) k ours v)))
 
--- a pair of key k, after these keys came; other keys (28) are NotUnderstood
-abbrev pub judgeAfter : List Bool → ℕ → Bool → List ℕ → ℕ → List ℕ → Judgement
-judgeAfter seen stage leading ours k v = pick (eqb k 28) (J.Said A.NotUnderstood) (judgeKey (getD seen k false) stage leading ours k v)
-
-unfoldable pub judgeAt : Settled → ℕ → Bool → List ℕ → ℕ → List ℕ → Judgement
-judgeAt s stage leading ours k v = judgeAfter (s .seen) stage leading ours k v
-
--- these keys came, and these values are in force
-abbrev pub settledOf : List Bool → List ℕ → Settled
-settledOf seen values = record { seen = seen; parameters = record { values = values } }
-
--- key k came
-abbrev pub marked : Settled → ℕ → Settled
-marked s k = record { seen = set (s .seen) k true; parameters = s .parameters }
-
--- what is settled after a known key's judgement: the key came, and its value if it has one now
-abbrev pub afterKey : Settled → ℕ → Judgement → Settled
-afterKey s k (J.Refused status) = s
-afterKey s k (J.Said r) = marked s k
-afterKey s k (J.Settles n r) = record { seen = set (s .seen) k true; parameters = valued (s .parameters) k n }
-
-unfoldable pub after : Settled → ℕ → Judgement → Settled
-after s k j = pick (eqb k 28) s (afterKey s k j)
+-- a pair of key k, which came before in this login or not; other keys (28) are NotUnderstood
+unfoldable pub judgeNamed : Bool → ℕ → Bool → List ℕ → ℕ → List ℕ → Judgement
+judgeNamed came stage leading ours k v = pick (eqb k 28) (J.Said A.NotUnderstood) (judgeKey came stage leading ours k v)

@@ -1,2 +1,2 @@
 pub mod Judge
-pub mod Answer
+pub mod Contracts

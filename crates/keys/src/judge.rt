@@ -11,11 +11,12 @@ use key_values::value::settle;
 use text::slice::lists;
 use text::slice::same_bytes;
 ghost use mathlib.Core.Path.{_≡_};
-ghost use mathlib.Core.Bool.{true};
+ghost use mathlib.Core.Bool.{true, false};
 ghost use Prim.Native.Nat.{_≤_, _<_};
-ghost use lib.ListN.{set};
+ghost use lib.ListN.{set, getD};
 ghost use Rattle.key_table.specs.Table.{kindAt};
-ghost use Rattle.keys.specs.Judge.{goodLength, initiatorName, targetName, sessionType, digest, taskReporting, authMethod, judgeBy, stands, leadingOnly, judgeKey, judgeAfter, settledOf, after};
+ghost use Rattle.keys.specs.Judge.{goodLength, initiatorName, targetName, sessionType, digest, taskReporting, authMethod, judgeBy, stands, leadingOnly, judgeKey, judgeNamed};
+ghost use Rattle.keys.specs.Contracts.{settledOf, after};
 
 // InitiatorName and TargetName have 1 to 223 bytes.
 fn length_good(v: &[u8]) -> bool
@@ -149,7 +150,7 @@ pub fn judge_pair(
     v: &[u8],
 ) -> Judgement
     requires { ⌜ k ≤ 28 ⌝ }
-    ensures { λ r. ⌜ r ≡ judgeAfter (now (seen .entry)) stage leading (now (ours .entry)) k (now (v .entry)) ⌝ }
+    ensures { λ r. ⌜ r ≡ judgeNamed (getD (now (seen .entry)) k false) stage leading (now (ours .entry)) k (now (v .entry)) ⌝ }
 {
     if k == KNOWN {
         return Judgement::Said(Reply::NotUnderstood);

@@ -12,18 +12,19 @@ use lib.Dec.{eqb}
 use borrow.Author.Tests.{lt-ltb, le-ltb, le-leb, lt-leb, eq-eqb, ne-eqb}
 use Rattle.field.specs.Field.{bytesOf}
 use Rattle.refusal.specs.Refusal.{number}
-use Rattle.response_header.specs.Response.{maxData, refusalIn, headerBytes}
+use Rattle.response_header.specs.Response.{refusalIn, headerBytes}
 use Rattle.refusal.specs.declared.Refusal.{Refusal}
 use Rattle.response_header.specs.declared.Response.{Response}
 use Rattle.field.proofs.Laws.{length-bytes, sets-append}
 use Rattle.refusal.proofs.Laws.{number-positive}
 use lib.Seq.{paste, sets, getD-set-same, getD-set-other, length-paste, set-append-left, length-sets, take-all, take-at}
-use Rattle.store.specs.Slot.{slotOf}
+use Rattle.store.specs.Slot.{inSlot}
 use Rattle.store.proofs.Slots.{slot-same, slot-other}
 use Rattle.ledger.specs.declared.Ledger.{Ledger}
+use Rattle.ledger.specs.declared.Renewal.{Renewal}
 use Rattle.ledger.specs.Book.{Status, LedgerBook, oldest, place, isStatus, isFull, refused, notStored, stored, sending, headerFor, sendBytes, sent, released, notHeld, run, runAt, runOf, renewed, Found, missing, found, lookup, statusOf}
 use Rattle.ledger.specs.declared.Sent.the-variants as S
-use Rattle.ledger.specs.Agree.{SlotHas, Agrees, Puts, Stored, Sends, ticket, nothing, Showing, showing}
+use Rattle.ledger.specs.Agree.{Statuses, statusesIn, SlotHas, Agrees, Puts, Stored, Sends, ticket, nothing, Showing, showing}
 
 pub oldest-is : (b : LedgerBook) (o l h : ℕ) → l ≡ b .next → h ≡ length (b .held) → length (b .held) ≤ 32 → b .next < 2 ^ 32
     → o < 2 ^ 32 → (o + h) % 2 ^ 32 ≡ l → o ≡ oldest b
@@ -95,28 +96,29 @@ apart o k n l m e = omega arith
 far-slot : (c k i j : ℕ) → (k ≡ c → ⊥) → i < 32 → j < 32 → k * 32 + j ≡ c * 32 + i → ⊥
 far-slot c k i j n h l e = omega arith
 
-slot-kept : (hs ts hd : List ℕ) (tk i j : ℕ) (f : Found) → length hs ≡ 6144 → length hd ≡ 48 → i < 128 → j < 128 → (j ≡ i → ⊥) → SlotHas hs ts j f
-    → SlotHas (paste hs (i * 48) hd 48) (set ts i tk) j f
+slot-kept : (ss : Statuses) (hd : List ℕ) (tk i j : ℕ) (f : Found) → length (ss .headers) ≡ 6144 → length hd ≡ 48 → i < 128 → j < 128 → (j ≡ i → ⊥)
+    → SlotHas ss j f
+    → SlotHas (statusesIn (paste (ss .headers) (i * 48) hd 48) (set (ss .tickets) i tk)) j f
 unfolding SlotHas
-slot-kept hs ts hd tk i j missing r h li lj n k = tt
-slot-kept hs ts hd tk i j (found s) r h li lj n k =
-    (slot-other hs hd i j (omega arith) (omega arith) h n ∙ k .0, getD-set-other ts i j tk 0 n ∙ k .1)
+slot-kept ss hd tk i j missing r h li lj n k = tt
+slot-kept ss hd tk i j (found s) r h li lj n k =
+    (slot-other (ss .headers) hd i j (omega arith) (omega arith) h n ∙ k .0, getD-set-other (ss .tickets) i j tk 0 n ∙ k .1)
 
 -- ---- the steps
 
-pub stored-agrees : (c : ℕ) (l r : Ledger) (tk : ℕ) (hd hs ts : List ℕ) (b : LedgerBook) → Agrees c l hs ts b → l .held < 32 → length hd ≡ 48
-    → r .«is_open» ≡ l .«is_open» → r .next ≡ (l .next + 1) % 2 ^ 32 → r .held ≡ l .held + 1
-    → Agrees c r (paste hs ((c * 32 + l .next % 32) * 48) hd 48) (set ts (c * 32 + l .next % 32) tk) (sent b (record { header = hd; ticket = tk }))
+pub stored-agrees : (c : ℕ) (l r : Ledger) (tk : ℕ) (hd : List ℕ) (ss : Statuses) (b : LedgerBook) → Agrees c l ss b → l .held < 32 → length hd ≡ 48
+    → r .next ≡ (l .next + 1) % 2 ^ 32 → r .held ≡ l .held + 1
+    → Agrees c r (statusesIn (paste (ss .headers) ((c * 32 + l .next % 32) * 48) hd 48) (set (ss .tickets) (c * 32 + l .next % 32) tk))
+    (sent b (record { header = hd; ticket = tk }))
 unfolding sent SlotHas
-stored-agrees c l r tk hd hs ts b g lh h e1 e2 e3 = record {
+stored-agrees c l r tk hd ss b g lh h e2 e3 = record {
   near = g .near;
-  is-open = e1 ∙ g .is-open;
   next = (e2 ∙ ap (λ (x : ℕ). (x + 1) % 2 ^ 32) (g .next));
   fits = omega arith;
   held = (omega (arith, g .held, length-append (b .held) (st ∷ [])));
   few = (omega (arith, g .held, length-append (b .held) (st ∷ [])));
-  headers-size = length-paste hs (i * 48) hd 48 (omega (arith, g .headers-size, g .near)) (omega arith) ∙ g .headers-size;
-  tickets-size = length-set ts i tk ∙ g .tickets-size;
+  headers-size = length-paste (ss .headers) (i * 48) hd 48 (omega (arith, g .headers-size, g .near)) (omega arith) ∙ g .headers-size;
+  tickets-size = length-set (ss .tickets) i tk ∙ g .tickets-size;
   kept = λ k. rw (oldest-sent b st (g .fits) (omega (arith, g .held))) (at k (decLt k (length (b .held))) (ℕ-discrete k (length (b .held))));
 }
   where
@@ -129,40 +131,43 @@ stored-agrees c l r tk hd hs ts b g lh h e1 e2 e3 = record {
     here : (oldest b + length (b .held)) % 32 ≡ l .next % 32
     here = next-slot b (g .fits) (g .few) ∙ ap (λ (x : ℕ). x % 32) (sym (g .next))
 
-    at : (k : ℕ) → Dec (k < length (b .held)) → Dec (k ≡ length (b .held)) → SlotHas (paste hs (i * 48) hd 48) (set ts i tk) (c * 32 + (oldest b + k) % 32) (lookup (sent b st .held) k)
+    at : (k : ℕ) → Dec (k < length (b .held)) → Dec (k ≡ length (b .held))
+        → SlotHas (statusesIn (paste (ss .headers) (i * 48) hd 48) (set (ss .tickets) i tk)) (c * 32 + (oldest b + k) % 32) (lookup (sent b st .held) k)
     at k (yes m) d =
         let ne : c * 32 + (oldest b + k) % 32 ≡ i → ⊥ = λ q. apart (oldest b) k (length (b .held)) m (omega (arith, g .held)) (omega (arith, here)) in
         (rw (lookup-front (b .held) st k m)
-        (slot-kept hs ts hd tk i (c * 32 + (oldest b + k) % 32) (lookup (b .held) k) (g .headers-size) h (omega (arith, g .near)) (omega (arith, g .near)) ne (g .kept k)))
+        (slot-kept ss hd tk i (c * 32 + (oldest b + k) % 32) (lookup (b .held) k) (g .headers-size) h (omega (arith, g .near))
+        (omega (arith, g .near)) ne (g .kept k)))
     at k (no m) (yes q) =
         let s : c * 32 + (oldest b + length (b .held)) % 32 ≡ i = ap (λ (x : ℕ). c * 32 + x) here in
         (rw (q, s, lookup-end (b .held) st)
-        ((slot-same hs hd i (omega (arith, g .headers-size, g .near)) h, getD-set-same ts i tk 0 (omega (arith, g .tickets-size, g .near)))))
+        ((
+          slot-same (ss .headers) hd i (omega (arith, g .headers-size, g .near)) h,
+          getD-set-same (ss .tickets) i tk 0 (omega (arith, g .tickets-size, g .near)),
+        )))
     at k (no m) (no q) =
         (rw (lookup-past (b .held ++ st ∷ []) k (omega (arith, length-append (b .held) (st ∷ [])))) (tt))
 
-pub stored-others : (c k n tk : ℕ) (hd hs ts : List ℕ) (m : Ledger) (b : LedgerBook) → c < 4 → (k ≡ c → ⊥) → length hd ≡ 48 → Agrees k m hs ts b
-    → Agrees k m (paste hs ((c * 32 + n % 32) * 48) hd 48) (set ts (c * 32 + n % 32) tk) b
-stored-others c k n tk hd hs ts m b lc ne h g = record {
+pub stored-others : (c k n tk : ℕ) (hd : List ℕ) (ss : Statuses) (m : Ledger) (b : LedgerBook) → c < 4 → (k ≡ c → ⊥) → length hd ≡ 48 → Agrees k m ss b
+    → Agrees k m (statusesIn (paste (ss .headers) ((c * 32 + n % 32) * 48) hd 48) (set (ss .tickets) (c * 32 + n % 32) tk)) b
+stored-others c k n tk hd ss m b lc ne h g = record {
   near = g .near;
-  is-open = g .is-open;
   next = g .next;
   fits = g .fits;
   held = g .held;
   few = g .few;
-  headers-size = length-paste hs ((c * 32 + n % 32) * 48) hd 48 (omega (arith, g .headers-size)) (omega arith) ∙ g .headers-size;
-  tickets-size = length-set ts (c * 32 + n % 32) tk ∙ g .tickets-size;
+  headers-size = length-paste (ss .headers) ((c * 32 + n % 32) * 48) hd 48 (omega (arith, g .headers-size)) (omega arith) ∙ g .headers-size;
+  tickets-size = length-set (ss .tickets) (c * 32 + n % 32) tk ∙ g .tickets-size;
   kept = λ j.
-      slot-kept hs ts hd tk (c * 32 + n % 32) (k * 32 + (oldest b + j) % 32) (lookup (b .held) j) (g .headers-size) h (omega arith) (omega (arith, g .near))
+      slot-kept ss hd tk (c * 32 + n % 32) (k * 32 + (oldest b + j) % 32) (lookup (b .held) j) (g .headers-size) h (omega arith) (omega (arith, g .near))
       (far-slot c k (n % 32) ((oldest b + j) % 32) ne (omega arith) (omega arith))
       (g .kept j);
 }
 
-pub release-agrees : (c : ℕ) (l r : Ledger) (hs ts : List ℕ) (b : LedgerBook) (e : ℕ) → Agrees c l hs ts b → place b e ≤ length (b .held)
-    → r .«is_open» ≡ l .«is_open» → r .next ≡ l .next → r .held ≡ l .held - place b e → Agrees c r hs ts (released b e)
-release-agrees c l r hs ts b e g le e1 e2 e3 = record {
+pub release-agrees : (c : ℕ) (l r : Ledger) (ss : Statuses) (b : LedgerBook) (e : ℕ) → Agrees c l ss b → place b e ≤ length (b .held)
+    → r .next ≡ l .next → r .held ≡ l .held - place b e → Agrees c r ss (released b e)
+release-agrees c l r ss b e g le e2 e3 = record {
   near = g .near;
-  is-open = e1 ∙ g .is-open;
   next = unfold released in (e2 ∙ g .next);
   fits = unfold released in (g .fits);
   held = unfold released in (rw length-drop (e3 ∙ ap (λ (x : ℕ). x - place b e) (g .held)));
@@ -205,9 +210,12 @@ sets-front a x i (v ∷ vs) l =
     ap (λ (r : List ℕ). sets r (suc i) vs) (set-append-left a x i v (omega arith))
     ∙ sets-front (set a i v) x (suc i) vs (rw length-set (omega arith))
 
-renew : (a x : List ℕ) (e m : ℕ) → length a ≡ 48 → sets (sets (a ++ x) 28 (bytesOf 4 e)) 32 (bytesOf 4 m) ≡ renewed a e m ++ x
+renew : (a x : List ℕ) (n : Renewal) → length a ≡ 48
+    → sets (sets (a ++ x) 28 (bytesOf 4 (n .«exp_cmd_sn»))) 32 (bytesOf 4 (n .«max_cmd_sn»)) ≡ renewed a n ++ x
 unfolding renewed
-renew a x e m l =
+renew a x n l =
+    let e = n .«exp_cmd_sn» in
+    let m = n .«max_cmd_sn» in
     ap (λ (r : List ℕ). sets r 32 (bytesOf 4 m)) (sets-front a x 28 (bytesOf 4 e) (omega (arith, length-bytes 4 e)))
     ∙ sets-front (sets a 28 (bytesOf 4 e)) x 32 (bytesOf 4 m) (omega (arith, length-bytes 4 m, length-sets a 28 (bytesOf 4 e)))
 
@@ -215,10 +223,11 @@ renew a x e m l =
 pub renew-both : (l : List ℕ) (e m : ℕ) → sets l 28 (bytesOf 4 e ++ bytesOf 4 m) ≡ sets (sets l 28 (bytesOf 4 e)) 32 (bytesOf 4 m)
 renew-both l e m = sym (sets-append l 28 (bytesOf 4 e) (bytesOf 4 m)) ∙ ap (λ (k : ℕ). sets (sets l 28 (bytesOf 4 e)) (28 + k) (bytesOf 4 m)) (length-bytes 4 e)
 
-pub resend-missing : (c : ℕ) (l : Ledger) (hs ts out : List ℕ) (b : LedgerBook) (n k e m : ℕ) → Agrees c l hs ts b → k ≡ place b n → l .held ≤ k
-    → _≡_ {A = Showing} (record { answer = nothing; bytes = out }) (showing (statusOf b n) e m out)
+pub resend-missing : (c : ℕ) (l : Ledger) (ss : Statuses) (out : List ℕ) (b : LedgerBook) (n k : ℕ) (x : Renewal) → Agrees c l ss b → k ≡ place b n
+    → l .held ≤ k
+    → _≡_ {A = Showing} (record { answer = nothing; bytes = out }) (showing (statusOf b n) x out)
 unfolding statusOf showing
-resend-missing c l hs ts out b n k e m g ek h = rw (lookup-past (b .held) (place b n) (omega (arith, g .held)))
+resend-missing c l ss out b n k x g ek h = rw (lookup-past (b .held) (place b n) (omega (arith, g .held)))
 
 lookup-in : (l : List Status) (k : ℕ) (A : Type 0) → k < length l → ((s : Status) → lookup l k ≡ found s → A) → A
 unfolding lookup
@@ -233,19 +242,20 @@ pub oldest-lt : (b : LedgerBook) → oldest b < 2 ^ 32
 unfolding oldest
 oldest-lt b = omega arith
 
-pub resend-found : (c : ℕ) (l : Ledger) (hs ts out : List ℕ) (b : LedgerBook) (n k e m : ℕ) → Agrees c l hs ts b → k ≡ place b n → n < 2 ^ 32 → k < l .held
-    → length (slotOf hs (c * 32 + n % 32)) ≡ 48
+pub resend-found : (c : ℕ) (l : Ledger) (ss : Statuses) (out : List ℕ) (b : LedgerBook) (n k : ℕ) (x : Renewal) → Agrees c l ss b → k ≡ place b n
+    → n < 2 ^ 32 → k < l .held
+    → length (inSlot (ss .headers) (c * 32 + n % 32)) ≡ 48
     → _≡_ {A = Showing} (record {
-      answer = ticket (getD ts (c * 32 + n % 32) 0);
-      bytes = sets (sets (slotOf hs (c * 32 + n % 32) ++ drop 48 out) 28 (bytesOf 4 e)) 32 (bytesOf 4 m);
+      answer = ticket (getD (ss .tickets) (c * 32 + n % 32) 0);
+      bytes = sets (sets (inSlot (ss .headers) (c * 32 + n % 32) ++ drop 48 out) 28 (bytesOf 4 (x .«exp_cmd_sn»))) 32 (bytesOf 4 (x .«max_cmd_sn»));
     })
-    (showing (statusOf b n) e m out)
+    (showing (statusOf b n) x out)
 unfolding statusOf showing place SlotHas
-resend-found c l hs ts out b n k e m g ek ln h sz =
+resend-found c l ss out b n k x g ek ln h sz =
     lookup-in (b .held) k _ (omega (arith, g .held)) (λ s q.
     let at : c * 32 + (oldest b + k) % 32 ≡ c * 32 + n % 32 = ap (λ (x : ℕ). c * 32 + x) (here (oldest b) n k (oldest-lt b) ln ek) in
-    let kept : SlotHas hs ts (c * 32 + n % 32) (found s) = rw (q, at) at (g .kept k) in
-    rw (← ek, q, renew (slotOf hs (c * 32 + n % 32)) (drop 48 out) e m sz, kept .0, kept .1))
+    let kept : SlotHas ss (c * 32 + n % 32) (found s) = rw (q, at) at (g .kept k) in
+    rw (← ek, q, renew (inSlot (ss .headers) (c * 32 + n % 32)) (drop 48 out) x sz, kept .0, kept .1))
 
 -- ---- send
 
@@ -257,42 +267,42 @@ pub same-header : (b : LedgerBook) (r : Response) (n e m : ℕ) → n ≡ b .nex
 unfolding headerFor
 same-header b r n e m q = rw q
 
-module _ (b : LedgerBook) (r : Response) where
-  pub sending-refused : (f : Refusal) → number f ≡ refusalIn maxData r → sending b r ≡ refused (number f)
+module _ (b : LedgerBook) (longest : ℕ) (r : Response) where
+  pub sending-refused : (f : Refusal) → number f ≡ refusalIn longest r → sending b longest r ≡ refused (number f)
   unfolding sending
   sending-refused f e = rw (← e, number-positive f)
 
-  module _ (fits : 0 ≡ refusalIn maxData r) where
-    pub sending-unstored : isStatus r ≡ false → sending b r ≡ notStored (b .next)
+  module _ (fits : 0 ≡ refusalIn longest r) where
+    pub sending-unstored : isStatus r ≡ false → sending b longest r ≡ notStored (b .next)
     unfolding sending
     sending-unstored s = rw (← fits, s)
 
-    pub sending-full : isStatus r ≡ true → 32 ≤ length (b .held) → sending b r ≡ refused 10
+    pub sending-full : isStatus r ≡ true → 32 ≤ length (b .held) → sending b longest r ≡ refused 10
     unfolding sending isFull
     sending-full s l = rw (← fits, s, le-leb 32 (length (b .held)) l)
 
-    pub sending-stored : isStatus r ≡ true → length (b .held) < 32 → sending b r ≡ stored (b .next)
+    pub sending-stored : isStatus r ≡ true → length (b .held) < 32 → sending b longest r ≡ stored (b .next)
     unfolding sending isFull
     sending-stored s l = rw (← fits, s, lt-leb 32 (length (b .held)) l)
 
-module _ (c : ℕ) (l : Ledger) (ticket : ℕ) (r : Response) (e m : ℕ) (out hs ts : List ℕ) where
-  pub sends-refused : (f : Refusal) → ((b : LedgerBook) → Agrees c l hs ts b → sending b r ≡ refused (number f))
-      → Sends c l ticket r e m out hs ts (S.Refused f) out hs ts
+module _ (c : ℕ) (l : Ledger) (ticket : ℕ) (r : Response) (longest e m : ℕ) (out : List ℕ) (ss : Statuses) where
+  pub sends-refused : (f : Refusal) → ((b : LedgerBook) → Agrees c l ss b → sending b longest r ≡ refused (number f))
+      → Sends c l ticket r longest e m out ss (S.Refused f) out ss
   unfolding sendBytes
   sends-refused f q = record {
     meets = λ b g. record { answer = sym (q b g); bytes = rw (q b g); agrees = tt };
     others = λ k n b ne g. g;
     headers-size = λ s. s;
     tickets-size = λ s. s;
-    stays = (refl, refl, refl);
+    stays = (refl, refl);
   }
 
   module _ (h : List ℕ) (is : h ≡ headerBytes r (record { «stat_sn» = l .next; «exp_cmd_sn» = e; «max_cmd_sn» = m })) where
-    right : (b : LedgerBook) → Agrees c l hs ts b → h ≡ headerFor b r e m
+    right : (b : LedgerBook) → Agrees c l ss b → h ≡ headerFor b r e m
     right b g = is ∙ same-header b r (l .next) e m (g .next)
 
-    pub sends-unstored : isStatus r ≡ false → ((b : LedgerBook) → Agrees c l hs ts b → sending b r ≡ notStored (b .next))
-        → Sends c l ticket r e m out hs ts (S.NotStored (l .next)) (h ++ drop 48 out) hs ts
+    pub sends-unstored : isStatus r ≡ false → ((b : LedgerBook) → Agrees c l ss b → sending b longest r ≡ notStored (b .next))
+        → Sends c l ticket r longest e m out ss (S.NotStored (l .next)) (h ++ drop 48 out) ss
     unfolding sendBytes
     sends-unstored s q = record {
       meets = λ b g. record {
@@ -303,21 +313,21 @@ module _ (c : ℕ) (l : Ledger) (ticket : ℕ) (r : Response) (e m : ℕ) (out h
       others = λ k n b ne g. g;
       headers-size = λ s. s;
       tickets-size = λ s. s;
-      stays = (s, refl, refl);
+      stays = (s, refl);
     }
 
-    pub sends-stored : (l' : Ledger) (hs' ts' : List ℕ) → isStatus r ≡ true → length h ≡ 48 → Stored c l ticket h hs ts l' hs' ts'
-        → ((b : LedgerBook) → Agrees c l hs ts b → sending b r ≡ stored (b .next))
-        → Sends c l ticket r e m out hs ts (S.Stored (l .next) l') (h ++ drop 48 out) hs' ts'
+    pub sends-stored : (l' : Ledger) (ss' : Statuses) → isStatus r ≡ true → length h ≡ 48 → Stored c l ticket h ss l' ss'
+        → ((b : LedgerBook) → Agrees c l ss b → sending b longest r ≡ stored (b .next))
+        → Sends c l ticket r longest e m out ss (S.Stored (l .next) l') (h ++ drop 48 out) ss'
     unfolding sendBytes
-    sends-stored l' hs' ts' s z k q = record {
+    sends-stored l' ss' s z k q = record {
       meets = λ b g. record {
         answer = ap stored (g .next) ∙ sym (q b g);
         bytes = rw (q b g) (ap (λ (x : List ℕ). x ++ drop 48 out) (right b g));
-        agrees = subst (λ (x : List ℕ). Agrees c l' hs' ts' (sent b (record { header = x; ticket = ticket }))) (right b g) (k .agrees b g);
+        agrees = subst (λ (x : List ℕ). Agrees c l' ss' (sent b (record { header = x; ticket = ticket }))) (right b g) (k .agrees b g);
       };
       others = k .others;
       headers-size = k .headers-size;
       tickets-size = k .tickets-size;
-      stays = (s, subst (λ (x : List ℕ). Puts c (l .next) ticket x hs hs' ts ts') (sym (take-at h (drop 48 out) 48 z)) (k .puts));
+      stays = (s, subst (λ (x : List ℕ). Puts c (l .next) ticket x ss ss') (sym (take-at h (drop 48 out) 48 z)) (k .puts));
     }

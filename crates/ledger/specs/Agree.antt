@@ -1,5 +1,5 @@
--- How the code's ledger of connection c, with the arrays that the four connections share, stands for an open ledger of
--- the book; and the contracts of its functions.
+-- Follows the code: how its ledger of connection c, with the arrays that the four connections share, stands for a ledger
+-- of the book; and the contracts of its functions.
 use Prim.Native.Nat.{ℕ, _+_, _*_, _%_, _^_, _<_, _≤_}
 use mathlib.Core.Path.{_≡_}
 use mathlib.Core.Bool.{true, false}
@@ -8,10 +8,11 @@ use lib.ListN.{length, getD, set, take, drop}
 use lib.Seq.{paste}
 use Rattle.refusal.specs.Refusal.{number}
 use Rattle.response_header.specs.declared.Response.{Response}
-use Rattle.store.specs.Slot.{headerSize, slotOf}
+use Rattle.store.specs.Slot.{headerSize, inSlot}
 use Rattle.ledger.specs.Book.{statuses, connections, Status, LedgerBook, freshLedger, isStatus, oldest, place, Sending, refused, notStored, stored, sending, headerFor, sendBytes, sent, isGood, released, notHeld, run, Found, missing, found, lookup, statusOf, renewed}
 use Rattle.ledger.specs.Book as Book
 use Rattle.ledger.specs.declared.Ledger.{Ledger}
+use Rattle.ledger.specs.declared.Renewal.{Renewal}
 use Rattle.ledger.specs.declared.Sent.{Sent}
 use Rattle.ledger.specs.declared.Sent.the-variants as S
 use Rattle.ledger.specs.declared.Acknowledged.{Acknowledged}
@@ -22,41 +23,50 @@ use Rattle.ledger.specs.declared.Resent.{Resent}
 use Rattle.ledger.specs.declared.Resent.the-variants as A
 
 -- The slots of the four connections.
-abbrev pub slots : ℕ
-slots = connections * statuses
+abbrev pub ledgerSlots : ℕ
+ledgerSlots = connections * statuses
+
+-- The two arrays that are lent to the ledgers: the headers and the tickets of their statuses, slot by slot.
+pub record Statuses : Type 0 where
+  pub headers : List ℕ
+  pub tickets : List ℕ
+
+abbrev pub statusesIn : (headers tickets : List ℕ) → Statuses
+statusesIn h t = record { headers = h; tickets = t }
 
 -- The slot j has the header and the ticket of what is found.
-unfoldable pub SlotHas : List ℕ → List ℕ → ℕ → Found → Type 0
-SlotHas hs ts j missing = Unit {0}
-SlotHas hs ts j (found s) = (slotOf hs j ≡ s .header) × (getD ts j 0 ≡ s .ticket)
+unfoldable pub SlotHas : Statuses → ℕ → Found → Type 0
+SlotHas ss j missing = Unit {0}
+SlotHas ss j (found s) = (inSlot (ss .headers) j ≡ s .header) × (getD (ss .tickets) j 0 ≡ s .ticket)
 
--- The ledger l of connection c, which is open, stands for b.
-pub record Agrees (c : ℕ) (l : Ledger) (hs ts : List ℕ) (b : LedgerBook) : Type 0 where
+-- The ledger l of connection c stands for b.
+pub record Agrees (c : ℕ) (l : Ledger) (ss : Statuses) (b : LedgerBook) : Type 0 where
   pub near : c < connections
-  pub is-open : l .«is_open» ≡ true
   pub next : l .next ≡ b .next
   pub fits : b .next < 2 ^ 32
   pub held : l .held ≡ length (b .held)
   pub few : length (b .held) ≤ statuses
-  pub headers-size : length hs ≡ slots * headerSize
-  pub tickets-size : length ts ≡ slots
-  pub kept : (k : ℕ) → SlotHas hs ts (c * statuses + (oldest b + k) % statuses) (lookup (b .held) k)
+  pub headers-size : length (ss .headers) ≡ ledgerSlots * headerSize
+  pub tickets-size : length (ss .tickets) ≡ ledgerSlots
+  pub kept : (k : ℕ) → SlotHas ss (c * statuses + (oldest b + k) % statuses) (lookup (b .held) k)
 
 pub record Opened (r : Ledger) (first : ℕ) : Type 0 where
-  pub agrees : (c : ℕ) (hs ts : List ℕ) → c < connections → length hs ≡ slots * headerSize → length ts ≡ slots → Agrees c r hs ts (freshLedger first)
+  pub agrees : (c : ℕ) (ss : Statuses) → c < connections → length (ss .headers) ≡ ledgerSlots * headerSize → length (ss .tickets) ≡ ledgerSlots
+      → Agrees c r ss (freshLedger first)
 
 -- A status that is stored changes the slot of its number in c's part, and no other byte of the arrays.
-unfoldable pub Puts : (c number ticket : ℕ) → (header : List ℕ) → (hs hs' ts ts' : List ℕ) → Type 0
-Puts c n t h hs hs' ts ts' =
-    (hs' ≡ paste hs ((c * statuses + n % statuses) * headerSize) h headerSize) × (ts' ≡ set ts (c * statuses + n % statuses) t)
+unfoldable pub Puts : (c number ticket : ℕ) → (header : List ℕ) → Statuses → Statuses → Type 0
+Puts c n t h ss ss' =
+    (ss' .headers ≡ paste (ss .headers) ((c * statuses + n % statuses) * headerSize) h headerSize)
+    × (ss' .tickets ≡ set (ss .tickets) (c * statuses + n % statuses) t)
 
 -- A status stored in c's ledger: c's agreement goes on, the others' stays.
-pub record Stored (c : ℕ) (l : Ledger) (ticket : ℕ) (header hs ts : List ℕ) (r : Ledger) (hs' ts' : List ℕ) : Type 0 where
-  pub agrees : (b : LedgerBook) → Agrees c l hs ts b → Agrees c r hs' ts' (sent b (record { header = header; ticket = ticket }))
-  pub others : (k : ℕ) (m : Ledger) (b : LedgerBook) → (k ≡ c → ⊥) → Agrees k m hs ts b → Agrees k m hs' ts' b
-  pub headers-size : length hs ≡ slots * headerSize → length hs' ≡ slots * headerSize
-  pub tickets-size : length ts ≡ slots → length ts' ≡ slots
-  pub puts : Puts c (l .next) ticket header hs hs' ts ts'
+pub record Stored (c : ℕ) (l : Ledger) (ticket : ℕ) (header : List ℕ) (ss : Statuses) (r : Ledger) (ss' : Statuses) : Type 0 where
+  pub agrees : (b : LedgerBook) → Agrees c l ss b → Agrees c r ss' (sent b (record { header = header; ticket = ticket }))
+  pub others : (k : ℕ) (m : Ledger) (b : LedgerBook) → (k ≡ c → ⊥) → Agrees k m ss b → Agrees k m ss' b
+  pub headers-size : length (ss .headers) ≡ ledgerSlots * headerSize → length (ss' .headers) ≡ ledgerSlots * headerSize
+  pub tickets-size : length (ss .tickets) ≡ ledgerSlots → length (ss' .tickets) ≡ ledgerSlots
+  pub puts : Puts c (l .next) ticket header ss ss'
 
 -- ---- send
 
@@ -66,35 +76,36 @@ sentOf (S.NotStored n) = notStored n
 sentOf (S.Stored n l) = stored n
 
 -- The ledger after a send that stores; of the others it stays the caller's.
-abbrev pub SentAgrees : (c : ℕ) → Sent → (hs ts : List ℕ) → LedgerBook → Type 0
-SentAgrees c (S.Refused f) hs ts b = Unit {0}
-SentAgrees c (S.NotStored n) hs ts b = Unit {0}
-SentAgrees c (S.Stored n l) hs ts b = Agrees c l hs ts b
+abbrev pub SentAgrees : (c : ℕ) → Sent → Statuses → LedgerBook → Type 0
+SentAgrees c (S.Refused f) ss b = Unit {0}
+SentAgrees c (S.NotStored n) ss b = Unit {0}
+SentAgrees c (S.Stored n l) ss b = Agrees c l ss b
 
 -- Of any ledger: "A refusal .. changes nothing"; what is not stored leaves the arrays; what is stored, the first 48 bytes of
 -- the output, changes one slot.
-abbrev pub SentStays : (c ticket : ℕ) → Response → Sent → (out out' hs hs' ts ts' : List ℕ) → Type 0
-SentStays c t r (S.Refused f) o o' hs hs' ts ts' = (o' ≡ o) × (hs' ≡ hs) × (ts' ≡ ts)
-SentStays c t r (S.NotStored n) o o' hs hs' ts ts' = (isStatus r ≡ false) × (hs' ≡ hs) × (ts' ≡ ts)
-SentStays c t r (S.Stored n l) o o' hs hs' ts ts' = (isStatus r ≡ true) × Puts c n t (take headerSize o') hs hs' ts ts'
+abbrev pub SentStays : (c ticket : ℕ) → Response → Sent → (out out' : List ℕ) → Statuses → Statuses → Type 0
+SentStays c t r (S.Refused f) o o' ss ss' = (o' ≡ o) × (ss' ≡ ss)
+SentStays c t r (S.NotStored n) o o' ss ss' = (isStatus r ≡ false) × (ss' ≡ ss)
+SentStays c t r (S.Stored n l) o o' ss ss' = (isStatus r ≡ true) × Puts c n t (take headerSize o') ss ss'
 
-pub record SendsAt (c ticket : ℕ) (r : Response) (e m : ℕ) (out : List ℕ) (x : Sent) (out' hs' ts' : List ℕ) (b : LedgerBook) : Type 0 where
-  pub answer : sentOf x ≡ sending b r
-  pub bytes : out' ≡ sendBytes (sending b r) (headerFor b r e m) out
-  pub agrees : SentAgrees c x hs' ts' (sent b (record { header = headerFor b r e m; ticket = ticket }))
+pub record SendsAt (c ticket : ℕ) (r : Response) (longest e m : ℕ) (out : List ℕ) (x : Sent) (out' : List ℕ) (ss' : Statuses) (b : LedgerBook) : Type 0 where
+  pub answer : sentOf x ≡ sending b longest r
+  pub bytes : out' ≡ sendBytes (sending b longest r) (headerFor b r e m) out
+  pub agrees : SentAgrees c x ss' (sent b (record { header = headerFor b r e m; ticket = ticket }))
 
-pub record Sends (c : ℕ) (l : Ledger) (ticket : ℕ) (r : Response) (e m : ℕ) (out hs ts : List ℕ) (x : Sent) (out' hs' ts' : List ℕ) : Type 0 where
-  pub meets : (b : LedgerBook) → Agrees c l hs ts b → SendsAt c ticket r e m out x out' hs' ts' b
-  pub others : (k : ℕ) (n : Ledger) (b : LedgerBook) → (k ≡ c → ⊥) → Agrees k n hs ts b → Agrees k n hs' ts' b
-  pub headers-size : length hs ≡ slots * headerSize → length hs' ≡ slots * headerSize
-  pub tickets-size : length ts ≡ slots → length ts' ≡ slots
-  pub stays : SentStays c ticket r x out out' hs hs' ts ts'
+pub record Sends (c : ℕ) (l : Ledger) (ticket : ℕ) (r : Response) (longest e m : ℕ) (out : List ℕ) (ss : Statuses) (x : Sent) (out' : List ℕ)
+    (ss' : Statuses) : Type 0 where
+  pub meets : (b : LedgerBook) → Agrees c l ss b → SendsAt c ticket r longest e m out x out' ss' b
+  pub others : (k : ℕ) (n : Ledger) (b : LedgerBook) → (k ≡ c → ⊥) → Agrees k n ss b → Agrees k n ss' b
+  pub headers-size : length (ss .headers) ≡ ledgerSlots * headerSize → length (ss' .headers) ≡ ledgerSlots * headerSize
+  pub tickets-size : length (ss .tickets) ≡ ledgerSlots → length (ss' .tickets) ≡ ledgerSlots
+  pub stays : SentStays c ticket r x out out' ss ss'
 
 -- ---- acknowledge, SNACK, resend
 
-unfoldable pub AcknowledgesAt : (c : ℕ) → (hs ts : List ℕ) → Acknowledged → LedgerBook → ℕ → Type 0
-AcknowledgesAt c hs ts Stale b e = isGood b e ≡ false
-AcknowledgesAt c hs ts (Good n l) b e = (isGood b e ≡ true) × (n ≡ place b e) × Agrees c l hs ts (released b e)
+unfoldable pub AcknowledgesAt : (c : ℕ) → Statuses → Acknowledged → LedgerBook → ℕ → Type 0
+AcknowledgesAt c ss Stale b e = isGood b e ≡ false
+AcknowledgesAt c ss (Good n l) b e = (isGood b e ≡ true) × (n ≡ place b e) × Agrees c l ss (released b e)
 
 abbrev pub runAnswer : Run → Book.Run
 runAnswer R.NotHeld = notHeld
@@ -109,9 +120,9 @@ pub record Showing : Type 0 where
   pub answer : Shown
   pub bytes : List ℕ
 
-unfoldable pub showing : Found → (expCmdSN maxCmdSN : ℕ) → List ℕ → Showing
-showing missing e m out = record { answer = nothing; bytes = out }
-showing (found s) e m out = record { answer = ticket (s .ticket); bytes = renewed (s .header) e m ++ drop headerSize out }
+unfoldable pub showing : Found → Renewal → List ℕ → Showing
+showing missing x out = record { answer = nothing; bytes = out }
+showing (found s) x out = record { answer = ticket (s .ticket); bytes = renewed (s .header) x ++ drop headerSize out }
 
 abbrev pub shownOf : Resent → Shown
 shownOf A.NotHeld = nothing
@@ -121,6 +132,6 @@ abbrev pub ResentStays : Resent → List ℕ → List ℕ → Type 0
 ResentStays A.NotHeld o o' = o' ≡ o
 ResentStays (A.Status t) o o' = Unit {0}
 
-pub record Resends (c : ℕ) (l : Ledger) (n e m : ℕ) (hs ts out : List ℕ) (r : Resent) (out' : List ℕ) : Type 0 where
-  pub meets : (b : LedgerBook) → Agrees c l hs ts b → _≡_ {A = Showing} (record { answer = shownOf r; bytes = out' }) (showing (statusOf b n) e m out)
+pub record Resends (c : ℕ) (l : Ledger) (n : ℕ) (x : Renewal) (ss : Statuses) (out : List ℕ) (r : Resent) (out' : List ℕ) : Type 0 where
+  pub meets : (b : LedgerBook) → Agrees c l ss b → _≡_ {A = Showing} (record { answer = shownOf r; bytes = out' }) (showing (statusOf b n) x out)
   pub stays : ResentStays r out out'

@@ -1,4 +1,4 @@
--- Paper 01, 'The status ledger': what one open connection holds, and what each call answers.
+-- Read beside paper 01, 'The status ledger': what one open connection holds, and what each call answers.
 use Prim.Native.Nat.{ℕ, zero, suc, _+_, _-_, _%_, _^_}
 use mathlib.Core.Bool.{Bool, true, not, _&&_}
 use mathlib.Core.List.{List, [], _∷_, _++_}
@@ -7,10 +7,11 @@ use lib.ListN.{length, drop}
 use lib.Seq.{sets}
 use Rattle.field.specs.Field.{pick, bytesOf}
 use Rattle.field.specs.Field as Field
-use Rattle.response_header.specs.Response.{maxData, refusalIn, headerBytes}
+use Rattle.response_header.specs.Response.{refusalIn, headerBytes}
 use Rattle.store.specs.Slot.{headerSize}
 use Rattle.response_header.specs.declared.Response.{Response}
 use Rattle.response_header.specs.declared.Response.the-variants as R
+use Rattle.ledger.specs.declared.Renewal.{Renewal}
 
 -- "FULL: 32 statuses unacknowledged".
 abbrev pub statuses : ℕ
@@ -63,12 +64,12 @@ pub data Sending : Type 0 where
   notStored : (number : ℕ) → Sending
   stored : (number : ℕ) → Sending
 
--- Writing's refusals, then the NOP-In that is "never FULL", then FULL.
-unfoldable pub sending : LedgerBook → Response → Sending
-sending b r =
-    pick (eqb (refusalIn maxData r) 0)
+-- Writing's refusals, with the longest data written, then the NOP-In that is "never FULL", then FULL.
+unfoldable pub sending : LedgerBook → (longest : ℕ) → Response → Sending
+sending b longest r =
+    pick (eqb (refusalIn longest r) 0)
     (pick (isStatus r) (pick (isFull b) (refused 10) (stored (b .next))) (notStored (b .next)))
-    (refused (refusalIn maxData r))
+    (refused (refusalIn longest r))
 
 -- "with the next StatSN and both window numbers".
 unfoldable pub headerFor : LedgerBook → Response → (expCmdSN maxCmdSN : ℕ) → List ℕ
@@ -127,5 +128,5 @@ unfoldable pub statusOf : LedgerBook → ℕ → Found
 statusOf b n = lookup (b .held) (place b n)
 
 -- "It differs from the sent header in bytes 28 to 35 only, which hold the current numbers."
-unfoldable pub renewed : List ℕ → (expCmdSN maxCmdSN : ℕ) → List ℕ
-renewed h e m = sets (sets h 28 (bytesOf 4 e)) 32 (bytesOf 4 m)
+unfoldable pub renewed : List ℕ → Renewal → List ℕ
+renewed h x = sets (sets h 28 (bytesOf 4 (x .«exp_cmd_sn»))) 32 (bytesOf 4 (x .«max_cmd_sn»))

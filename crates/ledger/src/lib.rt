@@ -3,21 +3,18 @@
 // the slots from 32 * c on, and a status lies in the slot of its number modulo 32.
 use field::NONE;
 use refusal::Refusal;
+use response_fields::OwnFields;
 use response_header::Judgement;
-use response_header::MAX_DATA;
 use response_header::Numbers;
-use response_header::Own;
 use response_header::Response;
 use store::HEADER_BYTES;
 ghost use mathlib.Core.Path.{_≡_};
-ghost use mathlib.Core.Bool.{true, false};
-ghost use mathlib.Core.List.{List};
 ghost use Prim.Native.Nat.{ℕ, _+_, _<_, _≤_};
 ghost use lib.ListN.{length};
-ghost use Rattle.response_header.specs.Response.{ownBytes};
+ghost use Rattle.response_fields.specs.WholeNumbers.{ownBytes};
 ghost use Rattle.store.specs.Slot.{headerSize};
 ghost use Rattle.ledger.specs.Book.{LedgerBook, statuses, connections, isStatus, place, runOf};
-ghost use Rattle.ledger.specs.Agree.{Agrees, Opened, Stored, Sends, AcknowledgesAt, runAnswer, Resends};
+ghost use Rattle.ledger.specs.Agree.{Statuses, statusesIn, Agrees, Opened, Stored, Sends, AcknowledgesAt, runAnswer, Resends};
 
 // The statuses that a ledger can hold, and its slots.
 pub const STATUSES: u32 = 32;
@@ -30,12 +27,18 @@ pub const LEDGER_BYTES: usize = 6144;
 // Where a header has ExpCmdSN, and MaxCmdSN after it.
 const EXP_CMD_SN: usize = 28;
 
+// The ledger of an open connection.
 pub struct Ledger {
-    pub is_open: bool,
     // The StatSN of the next status.
     pub next: u32,
     // How many statuses are held, those before the next.
     pub held: u32,
+}
+
+// What a resend renews of the header that was sent.
+pub struct Renewal {
+    pub exp_cmd_sn: u32,
+    pub max_cmd_sn: u32,
 }
 
 pub enum Sent {
@@ -65,30 +68,19 @@ pub fn opened(first: u32) -> Ledger
     ensures { λ r. ⌜ Opened r first ⌝ }
 {
     Ledger {
-        is_open: true,
         next: first,
         held: 0,
     }
 }
 
-// The ledger of a connection that is not open.
-pub fn closed() -> Ledger
-    ensures { λ r. ⌜ r .«is_open» ≡ false ⌝ }
-{
-    Ledger {
-        is_open: false,
-        next: 0,
-        held: 0,
-    }
-}
-
 // Sends a response on connection c: its header, with the next StatSN and both window numbers, into the first 48 bytes
-// of out, and header and ticket into the ledger. Writing's refusals come first, then FULL.
+// of out, and header and ticket into the ledger. Writing's refusals, with the longest data written, come first, then FULL.
 pub fn send(
     l: Ledger,
     c: usize,
     ticket: u32,
     r: Response,
+    max_data: u32,
     exp_cmd_sn: u32,
     max_cmd_sn: u32,
     out: &mut [u8],
@@ -96,11 +88,11 @@ pub fn send(
     tickets: &mut [u32; LEDGER_SLOTS],
 ) -> Sent
     requires { ⌜ (c < connections) × (headerSize ≤ length (now out)) ⌝ }
-    ensures { λ x. ⌜ Sends c l ticket r «exp_cmd_sn» «max_cmd_sn»
-        (now (out .entry)) (now (headers .entry)) (now (tickets .entry))
-        x (now (out .exit)) (now (headers .exit)) (now (tickets .exit)) ⌝ }
+    ensures { λ x. ⌜ Sends c l ticket r «max_data» «exp_cmd_sn» «max_cmd_sn»
+        (now (out .entry)) (statusesIn (now (headers .entry)) (now (tickets .entry)))
+        x (now (out .exit)) (statusesIn (now (headers .exit)) (now (tickets .exit))) ⌝ }
 {
-    match response_header::write::judge(r, MAX_DATA) {
+    match response_header::judge::judge(r, max_data) {
         Judgement::Refused(f) => Sent::Refused(f),
         Judgement::Fits => {
             let n = Numbers {
@@ -108,15 +100,15 @@ pub fn send(
                 exp_cmd_sn: exp_cmd_sn,
                 max_cmd_sn: max_cmd_sn,
             };
-            let o = response_header::write::own(r);
+            let o = response_fields::own_fields(r);
             if !is_status(r) {
-                response_header::write::place(out, 0, o, n);
+                response_writer::place(out, 0, o, n);
                 return Sent::NotStored(l.next);
             }
             if STATUSES <= l.held {
                 return Sent::Refused(Refusal::Full);
             }
-            response_header::write::place(out, 0, o, n);
+            response_writer::place(out, 0, o, n);
             let after = keep(l, c, ticket, o, n, headers, tickets);
             Sent::Stored {
                 stat_sn: l.next,
@@ -145,21 +137,22 @@ fn keep(
     l: Ledger,
     c: usize,
     ticket: u32,
-    o: Own,
+    o: OwnFields,
     n: Numbers,
     headers: &mut [u8; LEDGER_BYTES],
     tickets: &mut [u32; LEDGER_SLOTS],
 ) -> Ledger
     requires { ⌜ (c < connections) × (l .held < statuses) ⌝ }
-    ensures { λ r. ⌜ Stored c l ticket (ownBytes o n) (now (headers .entry)) (now (tickets .entry)) r (now (headers .exit)) (now (tickets .exit)) ⌝ }
+    ensures { λ r. ⌜ Stored c l ticket (ownBytes o n)
+        (statusesIn (now (headers .entry)) (now (tickets .entry)))
+        r (statusesIn (now (headers .exit)) (now (tickets .exit))) ⌝ }
 {
     let next = l.next;
     let slot = c * SLOTS_EACH + (next % STATUSES) as usize;
-    response_header::write::place(headers, slot * HEADER_BYTES, o, n);
+    response_writer::place(headers, slot * HEADER_BYTES, o, n);
     tickets[slot] = ticket;
     let after = std::num::wrapping_add_u32(next, 1);
     Ledger {
-        is_open: l.is_open,
         next: after,
         held: l.held + 1,
     }
@@ -167,7 +160,7 @@ fn keep(
 
 // How far a number is from the oldest that is held, or from the next one where none is.
 fn place_of(l: Ledger, number: u32) -> u32
-    ensures { λ r. ⌜ ((c : ℕ) (hs ts : List ℕ) (b : LedgerBook) → Agrees c l hs ts b → r ≡ place b number) ⌝ }
+    ensures { λ r. ⌜ ((c : ℕ) (ss : Statuses) (b : LedgerBook) → Agrees c l ss b → r ≡ place b number) ⌝ }
 {
     let oldest = std::num::wrapping_sub_u32(l.next, l.held);
     std::num::wrapping_sub_u32(number, oldest)
@@ -175,7 +168,7 @@ fn place_of(l: Ledger, number: u32) -> u32
 
 // Acknowledges by an ExpStatSN: the statuses before it are released, and counted.
 pub fn acknowledge(l: Ledger, exp_stat_sn: u32) -> Acknowledged
-    ensures { λ r. ⌜ ((c : ℕ) (hs ts : List ℕ) (b : LedgerBook) → Agrees c l hs ts b → AcknowledgesAt c hs ts r b «exp_stat_sn») ⌝ }
+    ensures { λ r. ⌜ ((c : ℕ) (ss : Statuses) (b : LedgerBook) → Agrees c l ss b → AcknowledgesAt c ss r b «exp_stat_sn») ⌝ }
 {
     let count = place_of(l, exp_stat_sn);
     let held = l.held;
@@ -183,7 +176,6 @@ pub fn acknowledge(l: Ledger, exp_stat_sn: u32) -> Acknowledged
         Acknowledged::Good {
             count: count,
             ledger: Ledger {
-                is_open: l.is_open,
                 next: l.next,
                 held: held - count,
             },
@@ -196,7 +188,7 @@ pub fn acknowledge(l: Ledger, exp_stat_sn: u32) -> Acknowledged
 // The run that a status SNACK asks for. BegRun and RunLength both 0 ask for all that is held; else BegRun must be held,
 // and RunLength 0 means from there to the end.
 pub fn run_of(l: Ledger, beg_run: u32, run_length: u32) -> Run
-    ensures { λ r. ⌜ ((c : ℕ) (hs ts : List ℕ) (b : LedgerBook) → Agrees c l hs ts b → runAnswer r ≡ runOf b «beg_run» «run_length») ⌝ }
+    ensures { λ r. ⌜ ((c : ℕ) (ss : Statuses) (b : LedgerBook) → Agrees c l ss b → runAnswer r ≡ runOf b «beg_run» «run_length») ⌝ }
 {
     let held = l.held;
     if (beg_run == 0) & (run_length == 0) {
@@ -226,20 +218,19 @@ pub fn run_of(l: Ledger, beg_run: u32, run_length: u32) -> Run
     }
 }
 
-// Resends a held status: its header as it was sent, but for ExpCmdSN and MaxCmdSN, which are those of now.
+// Resends a held status: its header as it was sent, but for what is renewed.
 pub fn resend(
     l: Ledger,
     c: usize,
     stat_sn: u32,
-    exp_cmd_sn: u32,
-    max_cmd_sn: u32,
+    renewal: Renewal,
     headers: &[u8; LEDGER_BYTES],
     tickets: &[u32; LEDGER_SLOTS],
     out: &mut [u8],
 ) -> Resent
     requires { ⌜ (c < connections) × (headerSize ≤ length (now out)) ⌝ }
-    ensures { λ r. ⌜ Resends c l «stat_sn» «exp_cmd_sn» «max_cmd_sn»
-        (now (headers .entry)) (now (tickets .entry)) (now (out .entry))
+    ensures { λ r. ⌜ Resends c l «stat_sn» renewal
+        (statusesIn (now (headers .entry)) (now (tickets .entry))) (now (out .entry))
         r (now (out .exit)) ⌝ }
 {
     let place = place_of(l, stat_sn);
@@ -248,7 +239,7 @@ pub fn resend(
     }
     let slot = c * SLOTS_EACH + (stat_sn % STATUSES) as usize;
     store::get(headers, slot * HEADER_BYTES, out);
-    let numbers = field::pair(exp_cmd_sn, max_cmd_sn);
+    let numbers = field::pair(renewal.exp_cmd_sn, renewal.max_cmd_sn);
     field::put(out, EXP_CMD_SN, numbers);
     Resent::Status(tickets[slot])
 }

@@ -1,33 +1,38 @@
--- What the code's answer on a block says, of the text output.
+-- The code's step is the step of the rules: a judged block, a request, and what a PDU is to a login.
 use mathlib.Core.Path.{_≡_, refl, sym, ap, _∙_, subst}
 use mathlib.Core.Bool.{Bool, true, false, not, _&&_, _||_}
 use borrow.Author.Tests.{ltb-false, eq-eqb, ne-eqb}
 use mathlib.Core.List.{List, [], _∷_, _++_}
 use mathlib.Core.Logic.{⊎-elim}
-use Prim.Native.Nat.{ℕ, _+_, _-_, _≤_}
+use Prim.Native.Nat.{ℕ, _+_, _-_}
 use native.Mathlib.Omega.{arith}
 use native.Mathlib.Nat.{add-sub-cancel-left}
 use lib.ListN.{length, drop, take}
-use lib.Seq.{take-at, length-take-le}
 use Rattle.request_header.specs.declared.Login.{Login}
 use Rattle.key_table.specs.declared.parameters.Settled.{Settled}
-use Rattle.login.specs.Login.{startText, answerOf, blockOf, named, joined, withGather, failText, finish, textStep, judgeStep, Outcome, Texted, accept, refuse, requestStep, kindStep, loginStep}
-use Rattle.login.specs.Code.{Joined, finishStep, withNames, blockResult, verdictAfter, textAfter, textOf, Written, undone, judgedBlock, judgedArea, areaOf, JudgedIn, foundStep, ReadAs, FoundAs}
-use Rattle.login.specs.Block.{judge, judgeBlock, Result, stopped, went, resultOf, countOf, JudgedAs}
-use Rattle.login.specs.declared.state.State.{State}
-use Rattle.login.specs.declared.state.Step.{Step}
-use Rattle.login.specs.declared.block.Verdict.{Verdict}
-use Rattle.login.specs.declared.block.Verdict.the-variants as D
-use Rattle.login.specs.declared.block.Judged.{Judged}
+use Rattle.login_book.specs.Keys.{Keys, named}
+use Rattle.login_book.specs.Book.{LoginBook}
+use Rattle.login_types.specs.Agree.{keysOf, bookOf, answerOf, Answers}
+use Rattle.login_types.specs.declared.state.Answer.the-variants as W
+use Rattle.login_book.specs.Login.{startText, joined, withGather, fail, failText, finish, textStep, judgeStep, Outcome, Texted, accept, refuse, requestStep, kindStep, loginStep}
+use Rattle.login_text.specs.Contracts.{withNames, blockResult, textOf, judgedBlock, judgedArea, areaOf, JudgedIn}
+use Rattle.login_answer.specs.Contracts.{endStep, gatheredStep, finishStep}
+use Rattle.login.specs.Contracts.{foundStep, isSix, ReadAs, FoundAs}
+use Rattle.login_book.specs.Block.{judge, Result, stopped, went}
+use Rattle.login_block.specs.Contracts.{resultOf}
+use Rattle.login_types.specs.declared.state.State.{State}
+use Rattle.login_types.specs.declared.state.Step.{Step}
+use Rattle.login_block.specs.declared.block.Verdict.{Verdict}
+use Rattle.login_block.specs.declared.block.Verdict.the-variants as D
+use Rattle.login_block.specs.declared.block.Judged.{Judged}
 use Rattle.login.specs.declared.request.Found.{Found}
 use Rattle.login.specs.declared.request.Found.the-variants as N
-use Rattle.login.proofs.Area.{block-is, back}
-use Rattle.text.specs.Block.{formed, pairs}
+use Rattle.text_block.specs.Block.{formed, pairs}
 use Rattle.text.specs.Text.{pick}
 use Rattle.text.proofs.Laws.{past, here, false-true}
 use Rattle.refusal.specs.Refusal.{number, status}
 use Rattle.request_header.specs.Request as Read
-use Rattle.request_header.specs.Request.{readPdu, limits, judged, known, opcodeOf, dataLengthOf, statedLength, sharedOk, ruleOk, pduOf, dataOf}
+use Rattle.request_header.specs.Request.{readPdu, limits, dataOf}
 use Rattle.request_header.proofs.Reading.{got-data}
 use Rattle.refusal.specs.declared.Refusal.{Refusal}
 use Rattle.refusal.specs.declared.Refusal.the-variants as F
@@ -40,133 +45,79 @@ use lib.Dec.{eqb, ltb}
 use types.Run.{OneOf}
 use denote.Enum.Declared.{tagOf}
 use Rattle.request_header.proofs.Request.{the-type}
+use Rattle.login_book.proofs.Reading.{reading}
 
-pub start-length : (b : Bool) → length (startText b) ≤ 23
-unfolding startText
-start-length true = omega arith
-start-length false = omega arith
-
--- What the verdict on a judged block says, of the text output.
-module _ (s : Settled) (n : ℕ) (o t : List ℕ) (h : n ≤ length o) where
-  text-front : take n (take n o ++ drop (length (take n o)) t) ≡ take n o
-  text-front = take-at (take n o) (drop (length (take n o)) t) n (length-take-le n o h)
-
-  named-go : (j m : Bool) → named s ≡ m
-      → Written (pick (not j && not (named s)) (stopped 0x0207) (went s (take n o))) s (pick (j || m) (D.Answered n) (D.Refused 0x0207)) t (textAfter (pick (j || m) (D.Answered n) (D.Refused 0x0207)) o t)
-  named-go true m e = record { result = ap (went s) text-front; text = refl }
-  named-go false true e = rw e (record { result = ap (went s) text-front; text = refl })
-  named-go false false e = rw e (record { result = refl; text = refl })
-
-written-go : (judged : Bool) (s : Settled) (v : Verdict) (o t : List ℕ) → countOf v ≤ length o
-    → Written (withNames judged (resultOf v s o)) s (verdictAfter (judged || named s) v) t (textAfter (verdictAfter (judged || named s) v) o t)
-written-go judged s (D.Refused x) o t h = record { result = refl; text = refl }
-written-go judged s (D.Answered n) o t h = named-go s n o t h judged (named s) refl
-
-written-is : (judged : Bool) (s : Settled) (v : Verdict) (o t : List ℕ) (r : Result) → JudgedAs r s v o
-    → Written (withNames judged r) s (verdictAfter (judged || named s) v) t (textAfter (verdictAfter (judged || named s) v) o t)
-written-is judged s v o t r j = subst (λ (x : Result). Written (withNames judged x) s (verdictAfter (judged || named s) v) t (textAfter (verdictAfter (judged || named s) v) o t)) (j .result) (written-go judged s v o t (j .few))
-
--- and the same of the block, by what each callee says
-pub written-by : (judged : Bool) (stage : ℕ) (leading : Bool) (ours : List ℕ) (s : Settled) (a b : List ℕ) (u : Settled) (v w : Verdict) (o t t' : List ℕ) (m : Bool)
-    → a ≡ startText judged → JudgedAs (judgeBlock stage leading ours s a b) u v o → m ≡ named u → w ≡ verdictAfter (judged || m) v → t' ≡ textAfter (verdictAfter (judged || m) v) o t
-    → Written (blockResult judged stage leading ours s b) u w t t'
-unfolding blockResult
-written-by judged stage leading ours s a b u v w o t t' m e j q x y = rw (x, y, q) (written-is judged u v o t _ (rw e at j))
-
--- The gather area beside it.
-area-is : (s : Settled) (v : Verdict) (t t' g h k : List ℕ) (at : ℕ) (r : Result) → Written r s v t t' → joined h at k ≡ g → undone v h at k ≡ areaOf r g h
-area-is s (D.Refused x) t t' g h k at r w e = e ∙ ap (λ (y : Result). areaOf y g h) (w .result)
-area-is s (D.Answered n) t t' g h k at r w e = ap (λ (y : Result). areaOf y g h) (w .result)
-
-area-either : (r : Result) (g : List ℕ) → g ≡ areaOf r g g
-area-either (stopped s) g = refl
-area-either (went s a) g = refl
-
--- nothing was gathered
-pub judged-own : (judged : Bool) (stage : ℕ) (leading : Bool) (ours : List ℕ) (s : Settled) (n : ℕ) (d : List ℕ) (j : Judged) (g t t' : List ℕ) → eqb n 0 ≡ true
-    → Written (blockResult judged stage leading ours s d) (j .settled) (j .verdict) t t' → JudgedIn judged stage leading ours s n d j g t g t'
-judged-own judged stage leading ours s n d j g t t' e w = record { written = rw e w; area = rw e (area-either (blockResult judged stage leading ours s d) g) }
-
--- something was: the piece was joined to it, and what stood there was put back where the block is refused
-pub judged-joined : (judged : Bool) (stage : ℕ) (leading : Bool) (ours : List ℕ) (s : Settled) (n : ℕ) (d : List ℕ) (j : Judged) (g t g' t' new kept : List ℕ) (r : ℕ) (b : List ℕ) → (n ≡ 0 → ⊥)
-    → n + length d ≤ length g → Joined g n d new kept r → b ≡ blockOf d new r → Written (blockResult judged stage leading ours s b) (j .settled) (j .verdict) t t'
-    → g' ≡ undone (j .verdict) new n (take (length d) kept) → JudgedIn judged stage leading ours s n d j g t g' t'
-judged-joined judged stage leading ours s n d j g t g' t' new kept r b some fit x e w u =
-    let w' = rw (e ∙ block-is g n d fit new kept r x some) at w in
-    let a = u ∙ area-is (j .settled) (j .verdict) t t' g new (take (length d) kept) n _ w' (back g n d fit new kept r x) in
-    record { written = rw (ne-eqb n 0 some) w'; area = rw (ne-eqb n 0 some, ← (x .area)) a }
+-- a code's step, with what the areas hold after it
+abbrev outcomeOf : Step → List ℕ → List ℕ → Outcome
+outcomeOf r g t = record { book = bookOf (r .state); answer = answerOf (r .answer) t; gather = g; text = t }
 
 -- The step that a result is.
-abbrev resultStep : State → Login → ℕ → List ℕ → Result → Texted
+abbrev resultStep : LoginBook → Login → ℕ → List ℕ → Result → Texted
 resultStep l q new t (stopped s) = failText l s t
 resultStep l q new t (went s a) = accept q new s a t
 
-named-step : (l : State) (q : Login) (new : ℕ) (t : List ℕ) (s : Settled) (a : List ℕ) (b : Bool) → resultStep l q new t (pick b (stopped 0x0207) (went s a)) ≡ pick b (failText l 0x0207 t) (accept q new s a t)
+named-step : (l : LoginBook) (q : Login) (new : ℕ) (t : List ℕ) (s : Keys) (a : List ℕ) (b : Bool) → resultStep l q new t (pick b (stopped 0x0207) (went s a)) ≡ pick b (failText l 0x0207 t) (accept q new s a t)
 named-step l q new t s a true = refl
 named-step l q new t s a false = refl
 
-finish-is : (l : State) (q : Login) (new : ℕ) (t : List ℕ) (r : Result) → resultStep l q new t (withNames (l .judged) r) ≡ finish l q new t r
+finish-is : (l : LoginBook) (q : Login) (new : ℕ) (t : List ℕ) (r : Result) → resultStep l q new t (withNames (l .judged) r) ≡ finish l q new t r
 finish-is l q new t (stopped s) = refl
 finish-is l q new t (went s a) = named-step l q new t s a (not (l .judged) && not (named s))
 
-form-step : (l : State) (q : Login) (new : ℕ) (t : List ℕ) (r : Result) (b : Bool) → resultStep l q new t (withNames (l .judged) (pick b r (stopped 0x0200))) ≡ pick b (finish l q new t r) (failText l 0x0200 t)
+form-step : (l : LoginBook) (q : Login) (new : ℕ) (t : List ℕ) (r : Result) (b : Bool) → resultStep l q new t (withNames (l .judged) (pick b r (stopped 0x0200))) ≡ pick b (finish l q new t r) (failText l 0x0200 t)
 form-step l q new t r true = finish-is l q new t r
 form-step l q new t r false = refl
 
-text-step : (l : State) (q : Login) (new : ℕ) (ours b t : List ℕ) → resultStep l q new t (blockResult (l .judged) (q .csg) (eqb (q .tsih) 0) ours (l .settled) b) ≡ textStep l q new ours b t
+text-step : (l : LoginBook) (q : Login) (new : ℕ) (ours b t : List ℕ) → resultStep l q new t (blockResult (l .judged) (q .csg) (eqb (q .tsih) 0) ours (l .keys) b) ≡ textStep l q new ours b t
 unfolding blockResult textStep
-text-step l q new ours b t = form-step l q new t (judge (q .csg) (eqb (q .tsih) 0) ours (l .settled) (startText (l .judged)) (pairs 64 b)) (formed 64 b)
+text-step l q new ours b t = form-step l q new t (judge (q .csg) (eqb (q .tsih) 0) ours (l .keys) (startText (l .judged)) (pairs 64 b)) (formed 64 b)
 
-area-step : (l : State) (q : Login) (new : ℕ) (ours d g t : List ℕ) (b : Bool)
+area-step : (l : LoginBook) (q : Login) (new : ℕ) (ours d g t : List ℕ) (b : Bool)
     → withGather g (pick b g (joined g (l .gathered) d)) (textStep l q new ours (pick b d (take (l .gathered) g ++ d)) t)
     ≡ pick b (withGather g g (textStep l q new ours d t)) (withGather g (joined g (l .gathered) d) (textStep l q new ours (take (l .gathered) g ++ d) t))
 area-step l q new ours d g t true = refl
 area-step l q new ours d g t false = refl
 
-step-go : (l : State) (q : Login) (new : ℕ) (s : Settled) (v : Verdict) (t t' g h : List ℕ) → t' ≡ textOf (resultOf v s t') t
-    → _≡_ {A = Outcome} (record { state = finishStep l q new s v .state; answer = answerOf (finishStep l q new s v .answer) t'; gather = areaOf (resultOf v s t') g h; text = t' }) (withGather g h (resultStep l q new t (resultOf v s t')))
+step-go : (l : State) (q : Login) (new : ℕ) (s : Settled) (v : Verdict) (t t' g h : List ℕ) → t' ≡ textOf (resultOf v (keysOf s) t') t
+    → _≡_ {A = Outcome} (outcomeOf (finishStep l q new s v) (areaOf (resultOf v (keysOf s) t') g h) t') (withGather g h (resultStep (bookOf l) q new t (resultOf v (keysOf s) t')))
 step-go l q new s (D.Refused x) t t' g h e = rw (← e)
 step-go l q new s (D.Answered n) t t' g h e = rw (← e)
 
 -- a judged block, answered, is the step of the rules
-judged-is : (l : State) (q : Login) (new : ℕ) (ours d : List ℕ) (j : Judged) (g t g' t' : List ℕ) → JudgedIn (l .judged) (q .csg) (eqb (q .tsih) 0) ours (l .settled) (l .gathered) d j g t g' t'
-    → _≡_ {A = Outcome} (record { state = finishStep l q new (j .settled) (j .verdict) .state; answer = answerOf (finishStep l q new (j .settled) (j .verdict) .answer) t'; gather = g'; text = t' }) (judgeStep l q new ours d g t)
+judged-is : (l : State) (q : Login) (new : ℕ) (ours d : List ℕ) (j : Judged) (g t g' t' : List ℕ)
+    → JudgedIn (l .judged) (q .csg) (eqb (q .tsih) 0) ours (keysOf (l .settled)) (l .gathered) d j g t g' t'
+    → outcomeOf (finishStep l q new (j .settled) (j .verdict)) g' t' ≡ judgeStep (bookOf l) q new ours d g t
 unfolding judgeStep
 judged-is l q new ours d j g t g' t' x =
     let b = judgedBlock (l .gathered) d g in
     let h = judgedArea (l .gathered) d g in
-    let r = blockResult (l .judged) (q .csg) (eqb (q .tsih) 0) ours (l .settled) b in
     let w = x .written in
-    let e : t' ≡ textOf (resultOf (j .verdict) (j .settled) t') t = w .text ∙ ap (λ (y : Result). textOf y t) (sym (w .result)) in
-    let k : g' ≡ areaOf (resultOf (j .verdict) (j .settled) t') g h = x .area ∙ ap (λ (y : Result). areaOf y g h) (sym (w .result)) in
+    let y = resultOf (j .verdict) (keysOf (j .settled)) t' in
+    let e : t' ≡ textOf y t = w .text ∙ ap (λ (z : Result). textOf z t) (sym (w .result)) in
+    let k : g' ≡ areaOf y g h = x .area ∙ ap (λ (z : Result). areaOf z g h) (sym (w .result)) in
     rw k (step-go l q new (j .settled) (j .verdict) t t' g h e)
-    ∙ ap (λ (y : Result). withGather g h (resultStep l q new t y)) (w .result)
-    ∙ ap (withGather g h) (text-step l q new ours b t)
-    ∙ area-step l q new ours d g t (eqb (l .gathered) 0)
+    ∙ ap (λ (z : Result). withGather g h (resultStep (bookOf l) q new t z)) (w .result)
+    ∙ ap (withGather g h) (text-step (bookOf l) q new ours b t)
+    ∙ area-step (bookOf l) q new ours d g t (eqb (l .gathered) 0)
 
--- A code's step, with what the areas hold after it.
-pub step-outcome : (r s : Step) (g t : List ℕ) → r ≡ s → _≡_ {A = Outcome} (record { state = r .state; answer = answerOf (r .answer) t; gather = g; text = t }) (record { state = s .state; answer = answerOf (s .answer) t; gather = g; text = t })
-step-outcome r s g t e = rw e
+-- What a request is answered, by the code's step.
+module _ (l : State) (r : Step) (g t : List ℕ) (o : Outcome) where
+  pub end-answers : (s : ℕ) → r ≡ endStep l s → fail (bookOf l) s g t ≡ o → Answers l r g t o
+  end-answers s e f = subst (λ (x : Step). Answers l x g t o) (sym e) (record { outcome = f; stays = refl })
 
-pub judged-step : (r : Step) (l : State) (q : Login) (new : ℕ) (ours d : List ℕ) (j : Judged) (g t g' t' : List ℕ) → r ≡ finishStep l q new (j .settled) (j .verdict)
-    → JudgedIn (l .judged) (q .csg) (eqb (q .tsih) 0) ours (l .settled) (l .gathered) d j g t g' t'
-    → _≡_ {A = Outcome} (record { state = r .state; answer = answerOf (r .answer) t'; gather = g'; text = t' }) (judgeStep l q new ours d g t)
-judged-step r l q new ours d j g t g' t' e x = step-outcome r _ g' t' e ∙ judged-is l q new ours d j g t g' t' x
+  pub gather-answers : (q : Login) (n : ℕ) → r ≡ gatheredStep l q n → outcomeOf (gatheredStep l q n) g t ≡ o → Answers l r g t o
+  gather-answers q n e f = subst (λ (x : Step). Answers l x g t o) (sym e) (record { outcome = f; stays = tt })
 
--- A refusal of reading has no status: its number is not 6.
-reading-go : (b1 b2 b3 b4 b5 : Bool) (p : Pdu) → pick b1 (Read.refused 4) (pick b2 (Read.refused 2) (pick b3 (Read.refused 5) (pick b4 (Read.refused 4) (pick b5 (Read.got p) (Read.refused 3))))) ≡ Read.refused 6 → ⊥
-reading-go true b2 b3 b4 b5 p e = let z : _≡_ {A = ℕ} 4 6 = cc in omega arith
-reading-go false true b3 b4 b5 p e = let z : _≡_ {A = ℕ} 2 6 = cc in omega arith
-reading-go false false true b4 b5 p e = let z : _≡_ {A = ℕ} 5 6 = cc in omega arith
-reading-go false false false true b5 p e = let z : _≡_ {A = ℕ} 4 6 = cc in omega arith
-reading-go false false false false true p e = let z : _≡_ {A = ℕ} 0 1 = cc in omega arith
-reading-go false false false false false p e = let z : _≡_ {A = ℕ} 3 6 = cc in omega arith
+  finish-answers : (q : Login) (new : ℕ) (s : Settled) (v : Verdict) → outcomeOf (finishStep l q new s v) g t ≡ o → Answers l (finishStep l q new s v) g t o
+  finish-answers q new s (D.Refused x) f = record { outcome = f; stays = refl }
+  finish-answers q new s (D.Answered n) f = record { outcome = f; stays = tt }
 
-pub reading : (m : Limits) (s : List ℕ) → readPdu m s ≡ Read.refused 6 → ⊥
-unfolding readPdu judged
-reading m s e =
-    reading-go (ltb (length s) 48) (not (known (opcodeOf s))) (ltb (m .«data_segment») (dataLengthOf s)) (not (eqb (length s) (statedLength s)))
-    (sharedOk (opcodeOf s) s && ruleOk m (pduOf (opcodeOf s) s) (pduOf (opcodeOf s) s .request)) (pduOf (opcodeOf s) s) e
+  judge-answers : (q : Login) (new : ℕ) (s : Settled) (v : Verdict) → r ≡ finishStep l q new s v → outcomeOf (finishStep l q new s v) g t ≡ o → Answers l r g t o
+  judge-answers q new s v e f = subst (λ (x : Step). Answers l x g t o) (sym e) (finish-answers q new s v f)
+
+pub judged-step : (r : Step) (l : State) (q : Login) (new : ℕ) (ours d : List ℕ) (j : Judged) (g t g' t' : List ℕ) (o : Outcome) → r ≡ finishStep l q new (j .settled) (j .verdict)
+    → JudgedIn (l .judged) (q .csg) (eqb (q .tsih) 0) ours (keysOf (l .settled)) (l .gathered) d j g t g' t' → judgeStep (bookOf l) q new ours d g t ≡ o → Answers l r g' t' o
+judged-step r l q new ours d j g t g' t' o e x f = judge-answers l r g' t' o q new (j .settled) (j .verdict) e (judged-is l q new ours d j g t g' t' x ∙ f)
 
 status-go : (m : Limits) (s : List ℕ) (f : Refusal) → readPdu m s ≡ Read.refused (number f) → status f ≡ 0
 status-go m s F.Buffer e = refl
@@ -190,7 +141,7 @@ not-third : (n : ℕ) → OneOf (0 ∷ 1 ∷ 2 ∷ 4 ∷ 5 ∷ []) n → n ≡ 3
 not-third n k e = ⊎-elim (λ a. omega arith) (λ b. ⊎-elim (λ a. omega arith) (λ c. ⊎-elim (λ a. omega arith) (λ d. ⊎-elim (λ a. omega arith) (λ f. omega arith) d) c) b) k
 
 -- FIELD for a PDU that is no Login, and for a new handle 0.
-module _ (l : State) (d : List ℕ) (live new : ℕ) (ours g t : List ℕ) where
+module _ (l : LoginBook) (d : List ℕ) (live new : ℕ) (ours g t : List ℕ) where
   kind-none : (r : Request) → OneOf (0 ∷ 1 ∷ 2 ∷ 4 ∷ 5 ∷ []) (tagOf the-type r) → refuse l 3 g t ≡ kindStep r l d live new ours g t
   kind-none (R.NopOut x) k = refl
   kind-none (R.ScsiCommand x) k = refl
@@ -211,18 +162,19 @@ module _ (l : State) (d : List ℕ) (live new : ℕ) (ours g t : List ℕ) where
 -- What a PDU is to a login: one that was read, and one that was not.
 module _ (new : ℕ) (pdu : List ℕ) where
   pub read-refused : (f : Refusal) → Read.answerOf (G.Refused f) ≡ readPdu limits pdu → ReadAs new pdu (N.Refused f)
-  read-refused f e = record { step = λ l live ours g t. rw (← e, reading-status limits pdu f e); inside = omega arith; lent = λ q. false-true q }
+  read-refused f e = record { other = ne-eqb (number f) 6 (λ z. reading limits pdu (sym e ∙ ap Read.refused z)); step = λ l live ours g t. rw (← e, reading-status limits pdu f e); inside = omega arith; lent = λ q. false-true q }
 
   module _ (p : Pdu) (e : Read.answerOf (G.Got p) ≡ readPdu limits pdu) where
     pub read-zero : new ≡ 0 → ReadAs new pdu (N.Refused F.Field)
-    read-zero z = record { step = λ l live ours g t. rw (← e) (kind-zero l (dataOf pdu p) live new ours g t (p .request) z); inside = omega arith; lent = λ q. false-true q }
+    read-zero z = record { other = refl; step = λ l live ours g t. rw (← e) (kind-zero l (dataOf pdu p) live new ours g t (p .request) z); inside = omega arith; lent = λ q. false-true q }
 
     pub read-other : OneOf (0 ∷ 1 ∷ 2 ∷ 4 ∷ 5 ∷ []) (tagOf the-type (p .request)) → ReadAs new pdu (N.Refused F.Field)
-    read-other k = record { step = λ l live ours g t. rw (← e) (kind-none l (dataOf pdu p) live new ours g t (p .request) k); inside = omega arith; lent = λ q. false-true q }
+    read-other k = record { other = refl; step = λ l live ours g t. rw (← e) (kind-none l (dataOf pdu p) live new ours g t (p .request) k); inside = omega arith; lent = λ q. false-true q }
 
     pub read-got : (q : Login) → p .request ≡ R.Login q → (new ≡ 0 → ⊥) → ReadAs new pdu (N.Login q (p .«data_start») (p .«data_segment_length»))
     unfolding dataOf
     read-got q f z = record {
+      other = refl;
       step = λ l live ours g t. rw (← e) (ap (λ (r : Request). kindStep r l (dataOf pdu p) live new ours g t) (sym f));
       inside = got-data limits pdu p (sym e);
       lent = λ _. z;
@@ -241,7 +193,7 @@ module _ (over : Bool) (new gather text : ℕ) (pdu : List ℕ) where
 
   pub found-small : (ltb gather 8192 || ltb text 8192) ≡ true → FoundAs over new gather text pdu (N.Refused F.Buffer)
   unfolding loginStep
-  found-small a = record { step = λ l live ours g t e m n. small (ltb (length g) 8192) (ltb (length t) 8192) _ _ (rw (m, n) a); inside = omega arith; lent = λ q. false-true q }
+  found-small a = record { other = refl; step = λ l live ours g t e m n. small (ltb (length g) 8192) (ltb (length t) 8192) _ _ (rw (m, n) a); inside = omega arith; lent = λ q. false-true q }
 
   module _ (a : (ltb gather 8192 || ltb text 8192) ≡ false) where
     reached : (x y z : Outcome) (g t : List ℕ) → length g ≡ gather → length t ≡ text → y ≡ z → y ≡ pick (ltb (length g) 8192) x (pick (ltb (length t) 8192) x z)
@@ -249,11 +201,12 @@ module _ (over : Bool) (new gather text : ℕ) (pdu : List ℕ) where
 
     pub found-closed : over ≡ true → FoundAs over new gather text pdu (N.Refused F.Closed)
     unfolding loginStep
-    found-closed c = record { step = λ l live ours g t e m n. reached _ _ _ g t m n (sym (here (l .over) _ _ (e ∙ c))); inside = omega arith; lent = λ q. false-true q }
+    found-closed c = record { other = refl; step = λ l live ours g t e m n. reached _ _ _ g t m n (sym (here (l .over) _ _ (e ∙ c))); inside = omega arith; lent = λ q. false-true q }
 
     pub found-read : over ≡ false → (f : Found) → ReadAs new pdu f → FoundAs over new gather text pdu f
     unfolding loginStep
     found-read c f r = record {
+      other = r .other;
       step = λ l live ours g t e m n. reached _ _ _ g t m n (r .step l live ours g t ∙ sym (past (l .over) _ _ _ (e ∙ c) refl));
       inside = r .inside;
       lent = λ q. (ltb-false _ _ (large (ltb gather 8192) (ltb text 8192) a .0), ltb-false _ _ (large (ltb gather 8192) (ltb text 8192) a .1), r .lent q);
@@ -261,8 +214,15 @@ module _ (over : Bool) (new gather text : ℕ) (pdu : List ℕ) where
 
 -- What is done with what was found is the step of the rules.
 module _ (l : State) (pdu : List ℕ) (live new : ℕ) (ours g t : List ℕ) (f : Found) (x : FoundAs (l .over) new (length g) (length t) pdu f) where
-  pub found-step : (h : Found) → f ≡ h → foundStep h l pdu live new ours g t ≡ loginStep l pdu live new ours g t
-  found-step h e = ap (λ (y : Found). foundStep y l pdu live new ours g t) (sym e) ∙ x .step l live ours g t refl refl refl
+  found-step : (h : Found) → f ≡ h → foundStep h (bookOf l) pdu live new ours g t ≡ loginStep (bookOf l) pdu live new ours g t
+  found-step h e = ap (λ (y : Found). foundStep y (bookOf l) pdu live new ours g t) (sym e) ∙ x .step (bookOf l) live ours g t refl refl refl
 
-  pub found-login : (q : Login) (a n : ℕ) (o : Outcome) → f ≡ N.Login q a n → o ≡ requestStep l q (take (a + n - a) (drop a pdu)) live new ours g t → o ≡ loginStep l pdu live new ours g t
-  found-login q a n o e r = r ∙ ap (λ (k : ℕ). requestStep l q (take k (drop a pdu)) live new ours g t) (add-sub-cancel-left a n) ∙ found-step (N.Login q a n) e
+  pub found-refused : (why : Refusal) → f ≡ N.Refused why → Answers l (record { state = l; answer = W.Refused why }) g t (loginStep (bookOf l) pdu live new ours g t)
+  found-refused why e = record { outcome = found-step (N.Refused why) e; stays = sym (past _ _ _ _ (ap isSix (sym e) ∙ x .other) refl) }
+
+  pub found-login : (q : Login) (a n : ℕ) (r : Step) (g' t' : List ℕ) → f ≡ N.Login q a n → Answers l r g' t' (requestStep (bookOf l) q (take (a + n - a) (drop a pdu)) live new ours g t)
+      → Answers l r g' t' (loginStep (bookOf l) pdu live new ours g t)
+  found-login q a n r g' t' e w = record {
+    outcome = w .outcome ∙ ap (λ (k : ℕ). requestStep (bookOf l) q (take k (drop a pdu)) live new ours g t) (add-sub-cancel-left a n) ∙ found-step (N.Login q a n) e;
+    stays = w .stays;
+  }

@@ -1,4 +1,1 @@
-pub mod Block
-pub mod Login
-pub mod Code
-pub mod Demand
+pub mod Contracts

@@ -1,13 +1,13 @@
 // One login request, whole: the one entry of the login phase.
-use crate::answer::end;
-use crate::answer::finish;
-use crate::checks::MAX_TEXT;
-use crate::checks::status_of;
-use crate::gather::gathered_step;
-use crate::gather::judge_request;
-use crate::state::Answer;
-use crate::state::State;
-use crate::state::Step;
+use login_answer::answer::end;
+use login_answer::answer::finish;
+use login_answer::checks::MAX_TEXT;
+use login_answer::checks::status_of;
+use login_answer::gathered::gathered_step;
+use login_text::gather::judge_request;
+use login_types::state::Answer;
+use login_types::state::State;
+use login_types::state::Step;
 use refusal::Refusal;
 use request_header::LIMITS;
 use request_header::Login;
@@ -18,8 +18,9 @@ use text::slice::append;
 ghost use mathlib.Core.Path.{_≡_};
 ghost use Prim.Native.Nat.{_≤_};
 ghost use lib.ListN.{length};
-ghost use Rattle.login.specs.Login.{answerOf, Outcome, requestStep, loginStep};
-ghost use Rattle.login.specs.Code.{ReadAs, FoundAs};
+ghost use Rattle.login_book.specs.Login.{requestStep, loginStep};
+ghost use Rattle.login_types.specs.Agree.{bookOf, Answers};
+ghost use Rattle.login.specs.Contracts.{ReadAs, FoundAs};
 
 // A Login request with this data.
 fn request_step(
@@ -33,7 +34,7 @@ fn request_step(
     text: &mut [u8],
 ) -> Step
     requires { ⌜ (8192 ≤ length (now gather)) × (8192 ≤ length (now text)) × (new ≡ 0 → ⊥) ⌝ }
-    ensures { λ r. ⌜ _≡_ {A = Outcome} (record { state = r .state; answer = answerOf (r .answer) (now (text .exit)); gather = now (gather .exit); text = now (text .exit) }) (requestStep l q (now (piece .entry)) live new (now (ours .entry)) (now (gather .entry)) (now (text .entry))) ⌝ }
+    ensures { λ r. ⌜ Answers l r (now (gather .exit)) (now (text .exit)) (requestStep (bookOf l) q (now (piece .entry)) live new (now (ours .entry)) (now (gather .entry)) (now (text .entry))) ⌝ }
 {
     let s = status_of(l, q, piece.len(), live);
     if s != 0 {
@@ -103,7 +104,7 @@ pub fn login_request(
     gather: &mut [u8],
     text: &mut [u8],
 ) -> Step
-    ensures { λ r. ⌜ _≡_ {A = Outcome} (record { state = r .state; answer = answerOf (r .answer) (now (text .exit)); gather = now (gather .exit); text = now (text .exit) }) (loginStep l (now (pdu .entry)) live new (now (ours .entry)) (now (gather .entry)) (now (text .entry))) ⌝ }
+    ensures { λ r. ⌜ Answers l r (now (gather .exit)) (now (text .exit)) (loginStep (bookOf l) (now (pdu .entry)) live new (now (ours .entry)) (now (gather .entry)) (now (text .entry))) ⌝ }
 {
     let f = find_login(l.over, new, gather.len(), text.len(), pdu);
     match f {

@@ -1,5 +1,5 @@
--- The field rules kind by kind, and the refusals in numbers: what `readPdu` says by `framed`, `fieldsOk` and `refusalIn`. The layers above
--- cite these laws and never open `readPdu`.
+-- The field rules kind by kind, and the refusals in numbers: what `readPdu` says by `refusalBeforeField`, `fieldsOk` and `firstRefusal`.
+-- The layers above cite these laws and never open `readPdu`.
 use mathlib.Core.Path.{_≡_, refl, sym, ap, _∙_}
 use mathlib.Core.Bool.{Bool, true, false, not, _&&_, _||_}
 use mathlib.Core.List.{List}
@@ -11,7 +11,9 @@ use lib.ListN.{length}
 use Rattle.field.specs.Field.{beAt, byte, bit, pick, none}
 use Rattle.request_header.specs.declared.Limits.{Limits}
 use Rattle.request_header.specs.declared.Pdu.{Pdu}
-use Rattle.request_header.specs.Request.{readPdu, judged, Answer, got, refused, known, opcodeOf, dataLengthOf, statedLength, sharedOk, ruleOk, snackOk, pduOf, requestOf, Says, framed, fieldsOk, refusalIn}
+use Rattle.request_header.specs.Request.{readPdu, judged, Answer, got, refused, known, opcodeOf}
+use Rattle.request_header.specs.Request.{dataLengthOf, statedLength, sharedOk, ruleOk, snackOk, pduOf, requestOf}
+use Rattle.request_header.specs.Verdicts.{fieldsOk, refusalBeforeField, BeforeField, firstRefusal}
 
 pub and-true : (b : Bool) → (b && true) ≡ b
 and-true true = refl
@@ -34,7 +36,8 @@ module _ (m : Limits) (s : List ℕ) where
   unfolding fieldsOk sharedOk ruleOk pduOf requestOf
   scsi-command-rules = simp (or-true)
 
-  pub task-management-rules : fieldsOk m 0x02 s ≡ (bit (byte s 1) 128 && eqb (byte s 4) 0) && ((leb 1 (byte s 1 % 128) && leb (byte s 1 % 128) (m .«task_function»)) && eqb (dataLengthOf s) 0)
+  pub task-management-rules : fieldsOk m 0x02 s
+      ≡ (bit (byte s 1) 128 && eqb (byte s 4) 0) && ((leb 1 (byte s 1 % 128) && leb (byte s 1 % 128) (m .«task_function»)) && eqb (dataLengthOf s) 0)
   unfolding fieldsOk sharedOk ruleOk pduOf requestOf
   task-management-rules = simp (or-false, and-true)
 
@@ -49,10 +52,6 @@ module _ (m : Limits) (s : List ℕ) where
   pub snack-rules : fieldsOk m 0x10 s ≡ (bit (byte s 1) 128 && eqb (byte s 4) 0) && snackOk (byte s 1 % 16) (beAt s 16 4) (beAt s 20 4)
   unfolding fieldsOk sharedOk ruleOk pduOf requestOf
   snack-rules = simp (or-false)
-
--- what the header of an input says
-pub says : (s : List ℕ) → 48 ≤ length s → {n : ℕ} → n ≡ dataLengthOf s → Says s (length s) (opcodeOf s) (byte s 4) n
-says s h e = record { long = h; whole = refl; opcode = refl; «total_ahs_length» = refl; «data_length» = sym e }
 
 -- the refusals before FIELD, over their tests: what the answer is where none is given, and where one is
 none-given : (a b c d : Bool) (y : Answer) → _≡_ {A = ℕ} (pick a 4 (pick b 2 (pick c 5 (pick d 4 0)))) 0
@@ -71,12 +70,16 @@ one-given false false true d y e = refl
 one-given false false false true y e = refl
 one-given false false false false y e = absurd (e refl)
 
-last-given : (a b c d : Bool) (f : ℕ) → f ≡ pick a 4 (pick b 2 (pick c 5 (pick d 4 0))) → (f ≡ 0 → ⊥) → (f ≡ 2 → ⊥) → (f ≡ 4 → ⊥) → f ≡ 5
-last-given true b c d f e x y z = absurd (z e)
-last-given false true c d f e x y z = absurd (y e)
-last-given false false true d f e x y z = e
-last-given false false false true f e x y z = absurd (z e)
-last-given false false false false f e x y z = absurd (x e)
+-- a number that reading answers and that is none of 2, 3 and 4 is 5
+last-given : (a b c d ok : Bool) (p : Pdu) (n : ℕ)
+    → pick a (refused 4) (pick b (refused 2) (pick c (refused 5) (pick d (refused 4) (pick ok (got p) (refused 3))))) ≡ refused n
+    → (n ≡ 2 → ⊥) → (n ≡ 3 → ⊥) → (n ≡ 4 → ⊥) → n ≡ 5
+last-given true b c d ok p n e x y z = absurd (z cc)
+last-given false true c d ok p n e x y z = absurd (x cc)
+last-given false false true d ok p n e x y z = cc
+last-given false false false true ok p n e x y z = absurd (z cc)
+last-given false false false false true p n e x y z = let q : _≡_ {A = ℕ} 0 1 = cc in absurd (omega arith)
+last-given false false false false false p n e x y z = absurd (y cc)
 
 -- the number of the first refusal, f where one comes before FIELD
 numbered : ℕ → Bool → ℕ
@@ -89,64 +92,58 @@ number-read f true e true g r x y = rw e (x (eqb-true f 0 e))
 number-read f true e false g r x y = rw e (x (eqb-true f 0 e))
 number-read f false e ok g r x y = rw (e, e) (y (eqb-false f 0 e))
 
-number-last : (f : ℕ) (b : Bool) → eqb f 0 ≡ b → (ok : Bool) → ((f ≡ 0 → ⊥) → (f ≡ 2 → ⊥) → (f ≡ 4 → ⊥) → f ≡ 5)
-    → (numbered f ok ≡ 0 → ⊥) → (numbered f ok ≡ 2 → ⊥) → (numbered f ok ≡ 3 → ⊥) → (numbered f ok ≡ 4 → ⊥) → numbered f ok ≡ 5
-unfolding numbered
-number-last f true e true h a b c d = absurd (a (rw e))
-number-last f true e false h a b c d = absurd (c (rw e))
-number-last f false e ok h a b c d = rw e (h (eqb-false f 0 e) (rw e at b) (rw e at d))
-
 module _ (m : Limits) (s : List ℕ) where
-  -- past them the header is whole and its opcode known
-  pub framed-long : framed m s ≡ 0 → 48 ≤ length s
-  unfolding framed
-  framed-long e = ltb-false _ _ (none-given (ltb (length s) 48) (not (known (opcodeOf s))) (ltb (m .«data_segment») (dataLengthOf s)) (not (eqb (length s) (statedLength s))) (refused 0) e .1)
+  -- past them the field rules decide; the header is whole and its opcode known
+  passed : refusalBeforeField m s ≡ 0
+      → (readPdu m s ≡ pick (fieldsOk m (opcodeOf s) s) (got (pduOf (opcodeOf s) s)) (refused 3))
+      × (ltb (length s) 48 ≡ false) × (not (known (opcodeOf s)) ≡ false)
+  unfolding refusalBeforeField readPdu judged fieldsOk pduOf
+  passed e =
+      none-given (ltb (length s) 48) (not (known (opcodeOf s))) (ltb (m .«data_segment») (dataLengthOf s)) (not (eqb (length s) (statedLength s)))
+      _ e
 
-  pub framed-known : framed m s ≡ 0 → known (opcodeOf s) ≡ true
-  unfolding framed
-  framed-known e = not-false _ (none-given (ltb (length s) 48) (not (known (opcodeOf s))) (ltb (m .«data_segment») (dataLengthOf s)) (not (eqb (length s) (statedLength s))) (refused 0) e .2)
+  not-passed : (refusalBeforeField m s ≡ 0 → ⊥) → readPdu m s ≡ refused (refusalBeforeField m s)
+  unfolding refusalBeforeField readPdu
+  not-passed e =
+      one-given (ltb (length s) 48) (not (known (opcodeOf s))) (ltb (m .«data_segment») (dataLengthOf s)) (not (eqb (length s) (statedLength s)))
+      _ e
 
-  -- and the field rules decide
-  pub framed-read : framed m s ≡ 0 → readPdu m s ≡ pick (fieldsOk m (opcodeOf s) s) (got (pduOf (opcodeOf s) s)) (refused 3)
-  unfolding framed readPdu judged fieldsOk pduOf
-  framed-read e = none-given (ltb (length s) 48) (not (known (opcodeOf s))) (ltb (m .«data_segment») (dataLengthOf s)) (not (eqb (length s) (statedLength s))) _ e .0
+  -- all that the number tells
+  pub before-field : (r : ℕ) → r ≡ refusalBeforeField m s → BeforeField m s r
+  before-field r e = record {
+    number = e;
+    answer = λ f. rw e (not-passed (λ z. f (e ∙ z)));
+    long = λ f. ltb-false _ _ (passed (sym e ∙ f) .1);
+    opcode = λ f. not-false _ (passed (sym e ∙ f) .2);
+    rules = λ f. passed (sym e ∙ f) .0;
+  }
 
-  pub framed-refused : (framed m s ≡ 0 → ⊥) → readPdu m s ≡ refused (framed m s)
-  unfolding framed readPdu
-  framed-refused e = one-given (ltb (length s) 48) (not (known (opcodeOf s))) (ltb (m .«data_segment») (dataLengthOf s)) (not (eqb (length s) (statedLength s))) _ e
+  -- the first refusal is one before FIELD, or by the field rules
+  pub first-before-field : {n : ℕ} → n ≡ refusalBeforeField m s → (n ≡ 0 → ⊥) → n ≡ firstRefusal m s
+  unfolding firstRefusal
+  first-before-field e f = rw (← e, ne-eqb _ _ f)
 
-  -- an input without a header
-  pub framed-short : length s < 48 → 4 ≡ framed m s
-  unfolding framed
-  framed-short h = rw (lt-ltb _ _ h)
+  pub first-by-fields : {n : ℕ} → n ≡ refusalBeforeField m s → n ≡ 0 → {b v : Bool} → b ≡ fieldsOk m (opcodeOf s) s → b ≡ v → pick v 0 3 ≡ firstRefusal m s
+  unfolding firstRefusal
+  first-by-fields e f g h = rw (← e, eq-eqb _ _ f, ← g, h)
 
-  pub read-short : length s < 48 → readPdu m s ≡ refused 4
-  unfolding readPdu
-  read-short h = rw (lt-ltb _ _ h)
-
-  pub refusal-framed : {n : ℕ} → n ≡ framed m s → (n ≡ 0 → ⊥) → n ≡ refusalIn m s
-  unfolding refusalIn
-  refusal-framed e f = rw (← e, ne-eqb _ _ f)
-
-  pub refusal-fields : {n : ℕ} → n ≡ framed m s → n ≡ 0 → {b v : Bool} → b ≡ fieldsOk m (opcodeOf s) s → b ≡ v → pick v 0 3 ≡ refusalIn m s
-  unfolding refusalIn
-  refusal-fields e f g h = rw (← e, eq-eqb _ _ f, ← g, h)
-
-  -- the refusal's number, and the answer of reading
-  refusal-read : readPdu m s ≡ pick (eqb (refusalIn m s) 0) (got (pduOf (opcodeOf s) s)) (refused (refusalIn m s))
-  unfolding refusalIn numbered
-  refusal-read = number-read (framed m s) _ refl (fieldsOk m (opcodeOf s) s) _ _ framed-read framed-refused
+  -- its number, and the answer of reading
+  first-read : readPdu m s ≡ pick (eqb (firstRefusal m s) 0) (got (pduOf (opcodeOf s) s)) (refused (firstRefusal m s))
+  unfolding firstRefusal numbered
+  first-read = number-read (refusalBeforeField m s) _ refl (fieldsOk m (opcodeOf s) s) _ _ (λ z. passed z .0) not-passed
 
   -- of a good PDU, and of a refusal's number
-  pub read-good : {n : ℕ} → n ≡ refusalIn m s → n ≡ 0 → readPdu m s ≡ got (pduOf (opcodeOf s) s)
-  read-good e f = rw (sym e ∙ f) at refusal-read
+  pub read-good : {n : ℕ} → n ≡ firstRefusal m s → n ≡ 0 → readPdu m s ≡ got (pduOf (opcodeOf s) s)
+  read-good e f = rw (sym e ∙ f) at first-read
 
-  pub read-by : {n : ℕ} → n ≡ refusalIn m s → (n ≡ 0 → ⊥) → readPdu m s ≡ refused n
-  read-by e f = rw (← e, ne-eqb _ _ f) at refusal-read
+  pub read-refused : {n : ℕ} → n ≡ firstRefusal m s → (n ≡ 0 → ⊥) → readPdu m s ≡ refused n
+  read-refused e f = rw (← e, ne-eqb _ _ f) at first-read
 
-  pub refusal-last : (refusalIn m s ≡ 0 → ⊥) → (refusalIn m s ≡ 2 → ⊥) → (refusalIn m s ≡ 3 → ⊥) → (refusalIn m s ≡ 4 → ⊥) → refusalIn m s ≡ 5
-  unfolding refusalIn numbered framed
-  refusal-last = number-last (framed m s) _ refl (fieldsOk m (opcodeOf s) s) (last-given (ltb (length s) 48) (not (known (opcodeOf s))) (ltb (m .«data_segment») (dataLengthOf s)) (not (eqb (length s) (statedLength s))) _ refl)
+  pub refused-last : (n : ℕ) → readPdu m s ≡ refused n → (n ≡ 2 → ⊥) → (n ≡ 3 → ⊥) → (n ≡ 4 → ⊥) → n ≡ 5
+  unfolding readPdu judged
+  refused-last n e =
+      last-given (ltb (length s) 48) (not (known (opcodeOf s))) (ltb (m .«data_segment») (dataLengthOf s)) (not (eqb (length s) (statedLength s)))
+      (sharedOk (opcodeOf s) s && ruleOk m (pduOf (opcodeOf s) s) (pduOf (opcodeOf s) s .request)) (pduOf (opcodeOf s) s) n e
 
 -- an opcode that is read, and is none of the five others, is that of SNACK
 pub known-last : (op : ℕ) → known op ≡ true → (op ≡ 0x00 → ⊥) → (op ≡ 0x01 → ⊥) → (op ≡ 0x02 → ⊥) → (op ≡ 0x03 → ⊥) → (op ≡ 0x06 → ⊥) → op ≡ 0x10

@@ -10,9 +10,8 @@ use lib.Dec.{eqb, lit<}
 use lib.ListN.{length, getD, drop, length-drop}
 use lib.Seq.{length-take-le}
 use Rattle.field.specs.Field.{pick}
-use Rattle.request_header.specs.declared.Verdict.{Verdict}
-use Rattle.request_header.specs.declared.Verdict.the-variants as J
-use Rattle.request_header.specs.Request.{verdictOf, readPdu, judged, Answer, got, refused, known, opcodeOf, dataLengthOf, statedLength, sharedOk, ruleOk, pduOf, requestOf, dataOf}
+use Rattle.request_header.specs.Request.{readPdu, judged, Answer, got, refused, known, opcodeOf}
+use Rattle.request_header.specs.Request.{dataLengthOf, statedLength, sharedOk, ruleOk, pduOf, requestOf, dataOf}
 use Rattle.request_header.specs.declared.Pdu.{Pdu}
 use Rattle.request_header.specs.declared.Limits.{Limits}
 
@@ -69,10 +68,3 @@ unfolding dataOf
 got-data-length m s p e =
     let d = got-data m s p e in
     length-take-le _ (drop (p .«data_start») s) (simp length-drop (omega arith))
-
--- an input that is judged good is read
-pub good-read : (m : Limits) (s : List ℕ) (v : Verdict) → verdictOf v s ≡ readPdu m s → v ≡ J.Good → readPdu m s ≡ got (pduOf (opcodeOf s) s)
-good-read m s v e f = sym e ∙ ap (λ (u : Verdict). verdictOf u s) f
-
-pub good-long : (m : Limits) (s : List ℕ) (v : Verdict) → verdictOf v s ≡ readPdu m s → v ≡ J.Good → 48 ≤ length s
-good-long m s v e f = got-long m s _ (good-read m s v e f)

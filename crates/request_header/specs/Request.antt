@@ -1,7 +1,6 @@
 -- Reading: where each request has its fields, the field rules, and the refusals in their order.
 -- The offsets are those of RFC 7143, sections 11.3, 11.5, 11.12, 11.14, 11.16 and 11.18.
-use Prim.Native.Nat.{ℕ, _+_, _*_, _/_, _%_, _≤_}
-use mathlib.Core.Path.{_≡_}
+use Prim.Native.Nat.{ℕ, _+_, _*_, _/_, _%_}
 use mathlib.Core.Bool.{Bool, true, false, not, _&&_, _||_}
 use mathlib.Core.List.{List}
 use lib.ListN.{length, take, drop}
@@ -18,8 +17,6 @@ use Rattle.request_header.specs.declared.Request.{Request}
 use Rattle.request_header.specs.declared.Request.the-variants as R
 use Rattle.request_header.specs.declared.Pdu.{Pdu}
 use Rattle.request_header.specs.declared.Limits.{Limits}
-use Rattle.request_header.specs.declared.Verdict.{Verdict}
-use Rattle.request_header.specs.declared.Verdict.the-variants as J
 use Rattle.request_header.specs.declared.ReadAnswer.{ReadAnswer}
 use Rattle.request_header.specs.declared.ReadAnswer.the-variants.{Got, Refused}
 
@@ -166,11 +163,6 @@ abbrev pub answerOf : ReadAnswer → Answer
 answerOf (Got p) = got p
 answerOf (Refused f) = refused (number f)
 
--- what a verdict says of the input: the PDU that it is, or the refusal's number
-abbrev pub verdictOf : Verdict → List ℕ → Answer
-verdictOf J.Good s = got (pduOf (opcodeOf s) s)
-verdictOf (J.Refused f) s = refused (number f)
-
 -- FIELD where a field rule is broken, else the PDU
 unfoldable pub judged : Limits → ℕ → List ℕ → Pdu → Answer
 judged m op s p = pick (sharedOk op s && ruleOk m p (p .request)) (got p) (refused 3)
@@ -183,31 +175,6 @@ readPdu m s =
     (pick (ltb (m .«data_segment») (dataLengthOf s)) (refused 5)
     (pick (not (eqb (length s) (statedLength s))) (refused 4)
     (judged m (opcodeOf s) s (pduOf (opcodeOf s) s)))))
-
--- the same in numbers, for code that answers a number: the refusals before FIELD, or 0 where there is none
-unfoldable pub framed : Limits → List ℕ → ℕ
-framed m s =
-    pick (ltb (length s) 48) 4
-    (pick (not (known (opcodeOf s))) 2
-    (pick (ltb (m .«data_segment») (dataLengthOf s)) 5
-    (pick (not (eqb (length s) (statedLength s))) 4
-    0)))
-
--- an input that has a header, and what it says: its length, the opcode, TotalAHSLength and DataSegmentLength
-pub record Says (s : List ℕ) (len op ahs n : ℕ) : Type 0 where
-  pub long : 48 ≤ length s
-  pub whole : length s ≡ len
-  pub opcode : opcodeOf s ≡ op
-  pub «total_ahs_length» : byte s 4 ≡ ahs
-  pub «data_length» : dataLengthOf s ≡ n
-
--- the field rules, of an opcode and a header
-unfoldable pub fieldsOk : Limits → ℕ → List ℕ → Bool
-fieldsOk m op s = sharedOk op s && ruleOk m (pduOf op s) (requestOf op s)
-
--- the first refusal, 0 for a good PDU
-unfoldable pub refusalIn : Limits → List ℕ → ℕ
-refusalIn m s = pick (eqb (framed m s) 0) (pick (fieldsOk m (opcodeOf s) s) 0 3) (framed m s)
 
 -- the data segment of a PDU, a part of the input it was read from, without pad; of another input, what lies in that place
 unfoldable pub dataOf : List ℕ → Pdu → List ℕ

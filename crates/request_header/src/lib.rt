@@ -1,7 +1,5 @@
 // A read PDU: its common fields together with one of six requests. Fields are named as RFC 7143 names them.
-pub mod judge;
 pub mod lengths;
-pub mod rules;
 
 use refusal::Refusal;
 ghost use mathlib.Core.Path.{_≡_};
@@ -96,12 +94,6 @@ pub fn limits_in_force() -> Limits
     ensures { λ r. ⌜ r ≡ limits ⌝ }
 {
     LIMITS
-}
-
-// What the input is, by itself: a PDU that is read, or refused.
-pub enum Verdict {
-    Good,
-    Refused(Refusal),
 }
 
 pub enum ReadAnswer {

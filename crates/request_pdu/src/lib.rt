@@ -5,8 +5,8 @@ use crate::kinds::pdu;
 use request_header::Limits;
 use request_header::Pdu;
 use request_header::ReadAnswer;
-use request_header::Verdict;
-use request_header::judge::judge;
+use request_refusal::first_refusal;
+use request_refusal::refusal_of;
 ghost use mathlib.Core.Path.{_≡_};
 ghost use Rattle.request_header.specs.Request.{answerOf, readPdu, dataOf};
 
@@ -14,14 +14,13 @@ ghost use Rattle.request_header.specs.Request.{answerOf, readPdu, dataOf};
 pub fn read(input: &[u8], limits: Limits) -> ReadAnswer
     ensures { λ r. ⌜ answerOf r ≡ readPdu limits (now (input .entry)) ⌝ }
 {
-    match judge(input, limits) {
-        Verdict::Refused(f) => ReadAnswer::Refused(f),
-        Verdict::Good => {
-            let op = input[0] % 64;
-            let p = pdu(input, op);
-            ReadAnswer::Got(p)
-        }
+    let number = first_refusal(input, limits);
+    if number != 0 {
+        return ReadAnswer::Refused(refusal_of(number));
     }
+    let op = input[0] % 64;
+    let p = pdu(input, op);
+    ReadAnswer::Got(p)
 }
 
 // The data segment of a PDU that was read from this input: a part of it, without pad.

@@ -5,7 +5,7 @@ use Prim.Native.Nat.{ℕ}
 use lib.ListN.{length, getD, replicate, length-replicate}
 use lib.Seq.{sets, length-sets}
 use Rattle.field.specs.Field.{bytesOf}
-use Rattle.response_header.specs.Response.{Field, place, ownFields, numbersFields, headerBytes}
+use Rattle.response_header.specs.Response.{Field, place, kindFields, numbersFields, headerBytes}
 use Rattle.response_header.specs.declared.Numbers.{Numbers}
 use Rattle.response_header.specs.declared.Response.{Response}
 use Rattle.response_header.specs.declared.Response.the-variants as R
@@ -18,6 +18,6 @@ length-place (f ∷ fs) l = length-place fs (sets l (f .at) (bytesOf (f .size) (
 pub length-header : (r : Response) (n : Numbers) → length (headerBytes r n) ≡ 48
 unfolding headerBytes
 length-header r n =
-    length-place (ownFields r) (place (numbersFields n) (replicate 48 0))
+    length-place (kindFields r) (place (numbersFields n) (replicate 48 0))
     ∙ length-place (numbersFields n) (replicate 48 0)
     ∙ length-replicate {A = ℕ} 48 0

@@ -1,9 +1,9 @@
--- Writing: where each response has its fields, when a response is refused, and what the lent bytes are then.
+-- Writing: where each response has its fields, and when a response is refused. What becomes of the lent bytes is in response_writer/specs/Writing.
 -- The offsets are those of RFC 7143, sections 11.4, 11.6, 11.13, 11.15, 11.17 and 11.19.
 use Prim.Native.Nat.{ℕ, _+_, _*_}
 use mathlib.Core.Bool.{Bool, true, false, not, _&&_, _||_}
-use mathlib.Core.List.{List, [], _∷_, _++_}
-use lib.ListN.{length, drop, replicate}
+use mathlib.Core.List.{List, [], _∷_}
+use lib.ListN.{replicate}
 use lib.Seq.{sets}
 use lib.Dec.{eqb, ltb}
 use Rattle.field.specs.Field.{bytesOf, pick, none}
@@ -15,13 +15,10 @@ use Rattle.response_header.specs.declared.LoginResponse.{LoginResponse}
 use Rattle.response_header.specs.declared.LogoutResponse.{LogoutResponse}
 use Rattle.response_header.specs.declared.Reject.{Reject}
 use Rattle.response_header.specs.declared.Numbers.{Numbers}
-use Rattle.response_header.specs.declared.Own.{Own}
 use Rattle.response_header.specs.declared.Response.{Response}
 use Rattle.response_header.specs.declared.Response.the-variants as R
 use Rattle.response_header.specs.declared.Judgement.{Judgement}
 use Rattle.response_header.specs.declared.Judgement.the-variants as J
-use Rattle.response_header.specs.declared.WriteAnswer.{WriteAnswer}
-use Rattle.response_header.specs.declared.WriteAnswer.the-variants as W
 
 -- the longest data segment that a response may state
 abbrev pub maxData : ℕ
@@ -118,23 +115,17 @@ rejectFields r =
     ∷ field 16 4 0xffffffff
     ∷ []
 
-unfoldable pub ownFields : Response → List Field
-ownFields (R.NopIn r) = nopInFields r
-ownFields (R.ScsiResponse r) = scsiResponseFields r
-ownFields (R.TaskManagementResponse r) = taskManagementResponseFields r
-ownFields (R.LoginResponse r) = loginResponseFields r
-ownFields (R.LogoutResponse r) = logoutResponseFields r
-ownFields (R.Reject r) = rejectFields r
+unfoldable pub kindFields : Response → List Field
+kindFields (R.NopIn r) = nopInFields r
+kindFields (R.ScsiResponse r) = scsiResponseFields r
+kindFields (R.TaskManagementResponse r) = taskManagementResponseFields r
+kindFields (R.LoginResponse r) = loginResponseFields r
+kindFields (R.LogoutResponse r) = logoutResponseFields r
+kindFields (R.Reject r) = rejectFields r
 
 -- the 48 bytes; "what isn't named is 0"
 unfoldable pub headerBytes : Response → Numbers → List ℕ
-headerBytes r n = place (ownFields r) (place (numbersFields n) (replicate 48 0))
-
--- the same 48 bytes from whole numbers: a response's own, and between them the three that all carry
-unfoldable pub ownBytes : Own → Numbers → List ℕ
-ownBytes o n =
-    bytesOf 8 (o .«at_0») ++ (bytesOf 8 (o .«at_8») ++ (bytesOf 8 (o .«at_16»)
-    ++ (bytesOf 4 (n .«stat_sn») ++ (bytesOf 4 (n .«exp_cmd_sn») ++ (bytesOf 4 (n .«max_cmd_sn») ++ (bytesOf 4 (o .«at_36») ++ bytesOf 8 (o .«at_40»)))))))
+headerBytes r n = place (kindFields r) (place (numbersFields n) (replicate 48 0))
 
 -- ---- the refusals
 
@@ -165,20 +156,3 @@ refusalIn max r = pick (ltb max (dataLengthIn r)) 5 (pick (fieldsFit r) 0 3)
 abbrev pub judgementNumber : Judgement → ℕ
 judgementNumber J.Fits = 0
 judgementNumber (J.Refused f) = number f
-
--- the answer, 0 for a header that was written, else the refusal's number; and what the lent bytes are then
-pub record Outcome : Type 0 where
-  pub answer : ℕ
-  pub bytes : List ℕ
-
-abbrev pub answered : WriteAnswer → ℕ
-answered W.Written = 0
-answered (W.Refused f) = number f
-
--- BUFFER first; then the response's own refusal, which leaves every byte; else the header in the first 48 bytes, and later bytes stay
-unfoldable pub writing : ℕ → List ℕ → Response → Numbers → Outcome
-writing max out r n =
-    pick (ltb (length out) 48) (record { answer = 1; bytes = out })
-    (pick (eqb (refusalIn max r) 0)
-    (record { answer = 0; bytes = headerBytes r n ++ drop 48 out })
-    (record { answer = refusalIn max r; bytes = out }))

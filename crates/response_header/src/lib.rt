@@ -1,5 +1,5 @@
-// The six responses that are written, and the three numbers that each carries.
-pub mod write;
+// The six responses that are written, the three numbers that each carries, and whether a response can be written.
+pub mod judge;
 
 use refusal::Refusal;
 ghost use mathlib.Core.Path.{_≡_};
@@ -68,15 +68,6 @@ pub struct Numbers {
     pub max_cmd_sn: u32,
 }
 
-// A response's own part of its header, in whole numbers by the byte that each starts at. Between byte 23 and byte 36 stand the three numbers.
-pub struct Own {
-    pub at_0: u64,
-    pub at_8: u64,
-    pub at_16: u64,
-    pub at_36: u32,
-    pub at_40: u64,
-}
-
 // The longest data segment that a response may state.
 pub const MAX_DATA: u32 = 8192;
 
@@ -90,10 +81,5 @@ pub fn max_data_in_force() -> u32
 // A response by itself: whether it can be written.
 pub enum Judgement {
     Fits,
-    Refused(Refusal),
-}
-
-pub enum WriteAnswer {
-    Written,
     Refused(Refusal),
 }

@@ -1,4 +1,1 @@
--- Laws of the session.
-pub mod Requests
-pub mod Steps
 pub mod Tied

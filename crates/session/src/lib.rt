@@ -1,30 +1,18 @@
-// A session: the command window and four connections, each with its status ledger. What a call changes is a small struct
-// by value and four arrays that the caller lends, each call only those that it touches: the window's headers and
-// tickets, and the headers and tickets of the statuses. The calls are in `command` (offer, take), `connection` (open,
-// logout) and `status` (send, acknowledge, snack, resend); none has a requirement of its caller, they refuse. An answer
-// carries what is new of the struct, and no more, so that a caller who keeps it elsewhere writes only that.
-pub mod command;
-pub mod connection;
-pub mod status;
-
+// A session whole: made fresh, and its window's two numbers. The other calls stand in session_commands, session_connections and
+// session_statuses, over session_state. What is proved of every list of calls from a fresh session stands here (proofs/Tied).
+use book::Given;
 use ledger::LEDGER_BYTES;
 use ledger::LEDGER_SLOTS;
 use ledger::Ledger;
-use window::CONNS;
+use session_state::Conn;
+use session_state::Session;
 use window::WINDOW_BYTES;
 use window::WINDOW_SLOTS;
-use window::Window;
-ghost use mathlib.Core.List.{List, []};
-ghost use Prim.Native.Nat.{ℕ};
-ghost use Rattle.book.specs.Book.{Call, Answer};
-ghost use Rattle.session.specs.Agree.{Did, IsFresh, state};
-
-pub struct Session {
-    // ErrorRecoveryLevel.
-    pub level: u8,
-    pub window: Window,
-    pub conns: [Ledger; CONNS],
-}
+ghost use Rattle.window.specs.Agree.{Commands};
+ghost use Rattle.ledger.specs.Agree.{Statuses};
+ghost use Rattle.book.specs.Book.{Call, Answer, noOutputs};
+ghost use Rattle.session_state.specs.Agree.{Did, IsFresh, state};
+ghost use Rattle.session.specs.Fresh.{freshState};
 
 // A fresh session with its arrays.
 pub struct FreshSession {
@@ -40,21 +28,27 @@ pub struct WindowNumbers {
     pub max_cmd_sn: u32,
 }
 
-// A fresh session, given its first command number, connection 0's first StatSN and the ErrorRecoveryLevel: connection 0
-// is open, and nothing is held.
-pub fn fresh(first: u32, stat_sn: u32, level: u8) -> FreshSession
-    ensures { λ r. ⌜ IsFresh first «stat_sn» level r ⌝ }
+// A fresh session, by what it is given: connection 0 is open, and nothing is held.
+pub fn fresh(given: Given) -> FreshSession
+    ensures { λ r. ⌜ IsFresh given (freshState r) ⌝ }
 {
-    let w = window::fresh(first);
+    let opening = given.opening;
+    let w = window::fresh(given.first);
     let window = w.window;
     let headers = w.headers;
     let tickets = w.tickets;
-    let opened = ledger::opened(stat_sn);
-    let closed = ledger::closed();
+    let open = Conn {
+        is_open: true,
+        ledger: ledger::opened(opening.stat_sn),
+    };
+    let closed = Conn {
+        is_open: false,
+        ledger: Ledger { next: 0, held: 0 },
+    };
     let session = Session {
-        level: level,
+        level: given.level,
         window: window,
-        conns: [opened, closed, closed, closed],
+        conns: [open, closed, closed, closed],
     };
     FreshSession {
         session: session,
@@ -67,7 +61,8 @@ pub fn fresh(first: u32, stat_sn: u32, level: u8) -> FreshSession
 
 // ExpCmdSN and MaxCmdSN.
 pub fn window_numbers(s: Session) -> WindowNumbers
-    ensures { λ r. ⌜ ((h t hs ts : List ℕ) → Did Call.windowNumbers (state s h t hs ts) (Answer.numbers (r .«exp_cmd_sn») (r .«max_cmd_sn»)) [] (state s h t hs ts)) ⌝ }
+    ensures { λ r. ⌜ ((k : Commands) (ss : Statuses)
+        → Did Call.windowNumbers (state s k ss) (Answer.numbers (r .«exp_cmd_sn») (r .«max_cmd_sn»)) noOutputs (state s k ss)) ⌝ }
 {
     let w = s.window;
     WindowNumbers {

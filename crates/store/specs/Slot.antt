@@ -1,4 +1,4 @@
--- A slot: the place of one header in an array of headers that lie one after the other.
+-- Follows the code: a slot is where one header lies in an array of headers one after the other.
 use Prim.Native.Nat.{ℕ, _*_}
 use mathlib.Core.List.{List}
 use lib.ListN as ListN
@@ -8,5 +8,5 @@ abbrev pub headerSize : ℕ
 headerSize = 48
 
 -- What the slot j of an array holds.
-unfoldable pub slotOf : List ℕ → ℕ → List ℕ
-slotOf headers j = ListN.take headerSize (ListN.drop (j * headerSize) headers)
+unfoldable pub inSlot : List ℕ → ℕ → List ℕ
+inSlot headers j = ListN.take headerSize (ListN.drop (j * headerSize) headers)

@@ -2,18 +2,15 @@
 use mathlib.Core.Path.{_≡_, refl, sym, ap, _∙_, ap₂}
 use mathlib.Core.Bool.{Bool, true, false, not, _&&_, _||_}
 use mathlib.Core.List.{List, [], _∷_, _++_, append-assoc}
-use Prim.Native.Nat.{ℕ, zero, suc, _+_, _-_, _*_, _/_, _%_, _^_, _<_, _≤_}
+use Prim.Native.Nat.{ℕ, zero, suc, _+_, _-_, _<_, _≤_}
 use native.Mathlib.Numerals.{add-one}
 use native.Mathlib.Omega.{arith}
-use native.Mathlib.Nat.{not-suc-le-zero, le-of-suc-le-suc, mul-le-mul-left, div-lt-iff-lt-mul, le-div-iff-mul-le, add-assoc, zero-add}
-use borrow.Author.Tests.{eq-eqb, ne-eqb, eqb-true, eqb-false, lt-ltb, le-ltb, le-leb, leb-true, ltb-true}
-use lib.ListN.{length, getD, take, drop, set, drop-of-length-le, length-drop, length-set, length-append, take-append-drop}
-use lib.Seq.{drop-cons, drop-drop, take-all, getD-set-same, drop-set-lt, take-suc-set}
+use native.Mathlib.Nat.{not-suc-le-zero, le-of-suc-le-suc, add-assoc, zero-add}
+use borrow.Author.Tests.{eq-eqb, ne-eqb, eqb-true, eqb-false, lt-ltb, le-ltb, leb-true}
+use lib.ListN.{length, getD, take, drop, set, drop-of-length-le, length-drop, length-append, take-append-drop}
+use lib.Seq.{drop-cons, drop-drop, take-all, drop-set-lt, take-suc-set}
 use lib.Dec.{eqb, ltb, leb, leb·suc-suc}
-use Rattle.text.specs.Text.{pick, before, after, has, same, all, items, onto, listed, Appended}
-use Rattle.text.specs.Block.{within, nameIn, valueIn, restOf, wholeFirst, goodFirst, goodName, formed, empty}
-use Rattle.text.specs.Number.{worth, digitOf, isDigit, numberIn, decimal}
-use Rattle.text.specs.declared.number.Number.the-variants.{Value, Bad}
+use Rattle.text.specs.Text.{pick, before, after, has, same, all, items, onto, listed, Appended, within}
 
 pub drop-step : (s : List ℕ) (i : ℕ) → i < length s → drop i s ≡ getD s i 0 ∷ drop (i + 1) s
 drop-step s i h = rw (add-one, drop-cons s i 0)
@@ -75,49 +72,12 @@ same-lengths [] (y ∷ b) n = refl
 same-lengths (x ∷ a) [] n = refl
 same-lengths (x ∷ a) (y ∷ b) n = rw (same-lengths a b (λ e. n (ap suc e))) (&&-false (eqb x y))
 
-pub worth-step : (base v : ℕ) (s : List ℕ) (i : ℕ) → i < length s → worth base v (drop i s) ≡ worth base (v * base + digitOf (getD s i 0)) (drop (i + 1) s)
-unfolding worth
-worth-step base v s i h = rw (drop-step s i h)
-
-pub worth-end : (base v : ℕ) (s : List ℕ) (i : ℕ) → length s ≤ i → worth base v (drop i s) ≡ v
-unfolding worth
-worth-end base v s i h = rw (drop-end s i h)
-
--- digits only add to what was read
-pub worth-grows : (base v : ℕ) (s : List ℕ) → 1 ≤ base → v ≤ worth base v s
-unfolding worth
-worth-grows base v [] h = omega arith
-worth-grows base v (b ∷ s) h =
-    let m : v * 1 ≤ v * base = mul-le-mul-left v h in
-    omega (arith, worth-grows base (v * base + digitOf b) s h, m)
-
 pub &&-left : (a b : Bool) → (a && b) ≡ true → a ≡ true
 &&-left true b e = refl
 &&-left false b e = e
 
 pub within-low : (a b x : ℕ) → within a b x ≡ true → a ≤ x
 within-low a b x e = leb-true a x (&&-left (leb a x) (leb x b) e)
-
-module _ (base : ℕ) (s : List ℕ) where
-  pub number-other : all (isDigit base) s ≡ false → numberIn base s ≡ Bad
-  unfolding numberIn
-  number-other e = rw (e, &&-false)
-
-  pub number-large : 2 ^ 64 ≤ worth base 0 s → numberIn base s ≡ Bad
-  unfolding numberIn
-  number-large h = rw (le-ltb (worth base 0 s) (2 ^ 64) h, &&-false)
-
-  pub number-good : (v : ℕ) → 1 ≤ length s → all (isDigit base) s ≡ true → worth base 0 s ≡ v → v < 2 ^ 64 → numberIn base s ≡ Value v
-  unfolding numberIn
-  number-good v n a e h = rw (e, a, le-leb 1 (length s) n, lt-ltb v (2 ^ 64) h)
-
--- the test against the largest number says exactly whether one digit more fits
-module _ (v base d m : ℕ) (p : 1 ≤ base) (q : d ≤ m) where
-  pub digit-fits : v ≤ (m - d) / base → v * base + d ≤ m
-  digit-fits h = let k : v * base ≤ m - d = le-div-iff-mul-le {k = base} {x = v} {y = m - d} p .0 h in omega arith
-
-  pub digit-over : (m - d) / base < v → m < v * base + d
-  digit-over h = let k : m - d < v * base = div-lt-iff-lt-mul {k = base} {x = m - d} {y = v} p .0 h in omega arith
 
 -- what &s[a..] is
 pub rest-part : (a : ℕ) (s : List ℕ) → take (length s - a) (drop a s) ≡ drop a s
@@ -140,7 +100,7 @@ past-go : (t : Bool) (x y : ℕ) (b s : List ℕ) (h : Bool) → eqb y x ≡ t �
 past-go true x y b s h e r k = ap (λ (z : ℕ). z ∷ []) (eqb-true y x e)
 past-go false x y b s h e r k = ap (λ (z : List ℕ). y ∷ z) (r k)
 
-take-past : (x : ℕ) (s : List ℕ) → has x s ≡ true → take (suc (length (before x s))) s ≡ before x s ++ (x ∷ [])
+pub take-past : (x : ℕ) (s : List ℕ) → has x s ≡ true → take (suc (length (before x s))) s ≡ before x s ++ (x ∷ [])
 unfolding before has
 take-past x [] h = false-true h
 take-past x (y ∷ s) h = past-go (eqb y x) x y (before x s) s (has x s) refl (take-past x s) h
@@ -173,43 +133,6 @@ pub &&-right : (a b : Bool) → (a && b) ≡ true → b ≡ true
 &&-right true b e = e
 &&-right false b e = cc
 
--- After a good first pair comes the rest of the text.
-pub rest-at : (s : List ℕ) (k e : ℕ) → e ≡ length (nameIn (drop k s)) + 1 + length (valueIn (drop k s)) → drop (k + e + 1) s ≡ restOf (drop k s)
-rest-at s k e q =
-    let t : drop (length (before 61 (drop k s)) + 1) (drop k s) ≡ after 61 (drop k s) = drop-before 61 (drop k s) in
-    let u : drop (length (before 0 (after 61 (drop k s))) + 1) (after 61 (drop k s)) ≡ after 0 (after 61 (drop k s)) = drop-before 0 (after 61 (drop k s)) in
-    let v : drop (length (before 0 (after 61 (drop k s))) + 1) (drop (length (before 61 (drop k s)) + 1) (drop k s)) ≡ after 0 (after 61 (drop k s)) = rw t u in
-    let m : length (before 61 (drop k s)) + 1 + (length (before 0 (after 61 (drop k s))) + 1) ≡ e + 1 = omega (arith, q) in
-    let w : drop (length (before 61 (drop k s)) + 1 + (length (before 0 (after 61 (drop k s))) + 1)) (drop k s) ≡ after 0 (after 61 (drop k s)) = sym (drop-drop (length (before 0 (after 61 (drop k s))) + 1) (length (before 61 (drop k s)) + 1) (drop k s)) ∙ v in
-    let p : k + e + 1 ≡ k + (e + 1) = omega arith in
-    ap (λ (n : ℕ). drop n s) p ∙ sym (drop-drop (e + 1) k s) ∙ ap (λ (n : ℕ). drop n (drop k s)) (sym m) ∙ w
-
--- One turn of a loop over the pairs of a text.
-pub some : (s : List ℕ) (k : ℕ) → k < length s → empty (drop k s) ≡ false
-some s k h = ne-eqb (length (drop k s)) 0 (λ z. let l : length (drop k s) ≡ length s - k = length-drop k s in omega arith)
-
-pub none : (s : List ℕ) (k : ℕ) → length s ≤ k → empty (drop k s) ≡ true
-none s k h = eq-eqb (length (drop k s)) 0 (length-drop k s ∙ omega arith)
-
-module _ (s : List ℕ) (k : ℕ) (h : k < length s) where
-  pub formed-none : formed 0 (drop k s) ≡ false
-  unfolding formed
-  formed-none = some s k h
-
-  pub formed-bad : (n : ℕ) → goodFirst (drop k s) ≡ false → formed n (drop k s) ≡ false
-  unfolding formed
-  formed-bad zero b = some s k h
-  formed-bad (suc n) b = rw (some s k h, b)
-
-  pub formed-step : (n e : ℕ) → goodFirst (drop k s) ≡ true → e ≡ length (nameIn (drop k s)) + 1 + length (valueIn (drop k s)) → formed (suc n) (drop k s) ≡ formed n (drop (k + e + 1) s)
-  unfolding formed
-  formed-step n e g q = rw (some s k h, g, rest-at s k e q)
-
-pub formed-end : (n : ℕ) (s : List ℕ) (k : ℕ) → length s ≤ k → formed n (drop k s) ≡ true
-unfolding formed
-formed-end zero s k h = none s k h
-formed-end (suc n) s k h = rw (none s k h)
-
 -- A comma list is its first item and the list after the comma.
 items-go : (t h : Bool) (c : ℕ) (b s a : List ℕ) → items s ≡ b ∷ pick h (items a) [] → pick t ([] ∷ items s) (onto c (items s)) ≡ pick t [] (c ∷ b) ∷ pick (t || h) (items (pick t s a)) []
 items-go true h c b s a e = refl
@@ -237,35 +160,6 @@ pub listed-empty : (w : List ℕ) → listed w [] ≡ eqb (length w) 0
 unfolding listed items same
 listed-empty [] = refl
 listed-empty (x ∷ w) = sym (ne-eqb (suc (length w)) 0 (λ e. omega arith))
-
--- Decimal digits from the last.
-drop-set : (l : List ℕ) (i x : ℕ) → i < length l → drop i (set l i x) ≡ x ∷ drop (i + 1) l
-drop-set l i x h =
-    let k : i < length (set l i x) = rw length-set h in
-    drop-cons (set l i x) i 0 k ∙ ap₂ (λ (a : ℕ) (r : List ℕ). a ∷ r) (getD-set-same l i x 0 h) (drop-set-lt (suc i) l i x (omega arith) ∙ ap (λ (n : ℕ). drop n l) (sym (add-one i)))
-
-module _ (l : List ℕ) (i r : ℕ) (h : i < length l) where
-  pub decimal-step : 10 ≤ r → decimal (i + 1) r ++ drop (i + 1) l ≡ decimal i (r / 10) ++ drop i (set l i (48 + r % 10))
-  unfolding decimal
-  decimal-step b = rw (drop-set l i (48 + r % 10) h, add-one, le-ltb r 10 b, append-assoc)
-
-  pub decimal-last : r < 10 → decimal (i + 1) r ++ drop (i + 1) l ≡ drop i (set l i (48 + r))
-  unfolding decimal
-  decimal-last b = rw (drop-set l i (48 + r) h, add-one, lt-ltb r 10 b)
-
-length-go : (t : Bool) (k a b : ℕ) (d : List ℕ) → length d ≤ k → length (pick t (a ∷ []) (d ++ (b ∷ []))) ≤ suc k
-length-go true k a b d h = omega arith
-length-go false k a b d h = omega (arith, length-append d (b ∷ []))
-
-pub decimal-length : (k n : ℕ) → length (decimal k n) ≤ k
-unfolding decimal
-decimal-length zero n = omega arith
-decimal-length (suc k) n = length-go (ltb n 10) k (48 + n) (48 + n % 10) (decimal k (n / 10)) (decimal-length k (n / 10))
-
--- a number of two digits or more has a digit before the last
-pub decimal-more : (r i : ℕ) → 10 ≤ r → r < 10 ^ (i + 1) → 1 ≤ i
-decimal-more r zero a b = absurd (let z : 10 ≤ 9 = omega arith in omega arith)
-decimal-more r (suc i) a b = omega arith
 
 pub getD-any {ℓ} : {A : Type ℓ} (l : List A) (k : ℕ) (d e : A) → k < length l → getD l k d ≡ getD l k e
 getD-any [] k d e h = absurd (not-suc-le-zero h)
@@ -311,36 +205,6 @@ appended-then {o} {a} {p} {b} {q} {at} {m} {n} x y = record {
   text = y .text ∙ (rw (x .text) (append-assoc (take at o) a b));
   rest = y .rest ∙ (rw (y .count) (sym (drop-drop (length b) m p) ∙ ap (drop (length b)) (x .rest) ∙ drop-drop (length b) m o));
 }
-
--- A first pair is good if its name is, and the rest of its form.
-good-go : (a b c d : Bool) → (((a && b) && c) && d) ≡ (a && ((b && c) && d))
-good-go true b c d = refl
-good-go false b c d = refl
-
-pub good-first : (s : List ℕ) → goodFirst s ≡ (goodName (nameIn s) && wholeFirst s)
-unfolding goodFirst
-good-first s = good-go (goodName (nameIn s)) (has 61 s) (leb (length (valueIn s)) 255) (has 0 (after 61 s))
-
--- a good name is short
-good-short : (n : List ℕ) → goodName n ≡ true → length n ≤ 63
-unfolding goodName
-good-short n e = leb-true _ 63 (&&-right (leb 1 (length n)) _ (&&-left _ _ (&&-left _ _ (&&-left _ _ e))))
-
-pub name-short : (s : List ℕ) → goodFirst s ≡ true → length (nameIn s) ≤ 63
-name-short s e = good-short (nameIn s) (&&-left (goodName (nameIn s)) _ (sym (good-first s) ∙ e))
-
--- The name and the value, as parts of the text.
-module _ (s : List ℕ) {eq end : ℕ} (n : eq ≡ length (nameIn s)) (v : end ≡ length (nameIn s) + 1 + length (valueIn s)) where
-  pub cut-name : take eq s ≡ nameIn s
-  cut-name = rw n (take-before 61 s)
-
-  pub cut-start : wholeFirst s ≡ true → take (eq + 1) s ≡ nameIn s ++ (61 ∷ [])
-  cut-start w = rw (n, add-one) (take-past 61 s (&&-left _ _ (&&-left (has 61 s && leb (length (valueIn s)) 255) _ w)))
-
-  pub cut-value : take (end - (eq + 1)) (drop (eq + 1) s) ≡ valueIn s
-  cut-value =
-      let m : end - (eq + 1) ≡ length (before 0 (after 61 s)) = omega (arith, n, v) in
-      rw (m, n, drop-before 61 s) (take-before 0 (after 61 s))
 
 -- The whole output after an appending, and after one at its front.
 pub appended-whole : {o b p : List ℕ} {at r : ℕ} → Appended o at b p r → p ≡ (take at o ++ b) ++ drop (at + length b) o

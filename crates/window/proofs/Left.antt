@@ -16,11 +16,15 @@ use lib.ListN as ListN
 use lib.ListN.{length, getD, drop, set, length-set, List·getD-eq-default}
 use lib.Seq.{getD-set-same, getD-set-other, getD-take, length-take-le}
 use Rattle.window.specs.declared.Window.{Window}
-use Rattle.window.specs.Bit.{bitAt, without, eachWithout}
+use Rattle.window.specs.PlaceSlot.{slotOf}
+use Rattle.place_map.specs.Bit.{bitAt, without, eachWithout}
 use Rattle.window.specs.Book.{Origin, none, connection, Place, empty, holds, Book, next, gapless, logout, loggedOut, step, one-if, isFrom, concerns, spared, before, after, left, emptiedAt, voidedAt, sumOf, afterLogout, logoutStep, bookStep}
 use Rattle.field.specs.Field.{pick}
-use Rattle.window.specs.Agree.{state, heldBit, voidBit, originBit, Maps, SlotHas, Agrees}
-use Rattle.window.proofs.Bits.{bit-none, bit-lt, bit-or, bit-and, bit-high, bit-below, bit-above, bit-without, without-lt, ones-count, ones-from}
+use Rattle.window.specs.Agree.{Commands, state, heldBit, voidBit, originBit, Maps, SlotHas, Agrees}
+use Rattle.window.proofs.PlaceSlot.{slot-stays}
+use Rattle.window.proofs.Steps.{all-places}
+use Rattle.place_map.proofs.Bits.{bit-none, bit-lt, bit-or, bit-and, bit-high, bit-below, bit-above, bit-without, without-lt}
+use Rattle.window.proofs.Bits.{ones-count, ones-from}
 
 -- ---- the bits of a place after the logout
 
@@ -45,7 +49,8 @@ void-before c r empty = refl
 void-before c r (holds e) = go (concerns c r e) (eqb r 2) (e .void) refl
   where
     go : (t u x : Bool) → e .void ≡ x
-        → one-if (pick t (pick u (record { header = e .header; ticket = e .ticket; origin = none; void = e .void }) (record { header = e .header; ticket = e .ticket; origin = e .origin; void = true })) e .void)
+        → one-if (pick t (pick u (record { header = e .header; ticket = e .ticket; origin = none; void = e .void })
+        (record { header = e .header; ticket = e .ticket; origin = e .origin; void = true })) e .void)
         ≡ max (one-if (e .void)) (one-if (not u && (t && not (e .void))))
     go true true true q = rw q
     go true true false q = rw q
@@ -81,7 +86,8 @@ unfolding originBit before spared
 origin-before k c r empty q = refl
 origin-before k c r (holds e) q = rw q (go (concerns c r e))
   where
-    go : (t : Bool) → one-if (isFrom k (pick t (record { header = e .header; ticket = e .ticket; origin = e .origin; void = true }) e .origin)) ≡ one-if (isFrom k (e .origin))
+    go : (t : Bool) → one-if (isFrom k (pick t (record { header = e .header; ticket = e .ticket; origin = e .origin; void = true }) e .origin))
+        ≡ one-if (isFrom k (e .origin))
     go true = refl
     go false = refl
 
@@ -110,7 +116,8 @@ origin-lost k c empty = go (eqb k c)
     go false = refl
 origin-lost k c (holds e) = go (isFrom c (e .origin)) ∙ lost k c (e .origin)
   where
-    go : (t : Bool) → one-if (isFrom k (pick t (record { header = e .header; ticket = e .ticket; origin = none; void = e .void }) e .origin)) ≡ pick t 0 (one-if (isFrom k (e .origin)))
+    go : (t : Bool) → one-if (isFrom k (pick t (record { header = e .header; ticket = e .ticket; origin = none; void = e .void }) e .origin))
+        ≡ pick t 0 (one-if (isFrom k (e .origin)))
     go true = refl
     go false = refl
 
@@ -127,22 +134,24 @@ origin-emptied k c (holds e) = go (isFrom c (e .origin)) ∙ lost k c (e .origin
     go true = refl
     go false = refl
 
-slot-before : (h t : List ℕ) (j c r : ℕ) (p : Place) → SlotHas h t j p → SlotHas h t j (before c r p)
+slot-before : (cs : Commands) (j c r : ℕ) (p : Place) → SlotHas cs j p → SlotHas cs j (before c r p)
 unfolding SlotHas before spared
-slot-before h t j c r empty s = tt
-slot-before h t j c r (holds e) s = go (concerns c r e) (eqb r 2)
+slot-before cs j c r empty s = tt
+slot-before cs j c r (holds e) s = go (concerns c r e) (eqb r 2)
   where
-    go : (v u : Bool) → SlotHas h t j (holds (pick v (pick u (record { header = e .header; ticket = e .ticket; origin = none; void = e .void }) (record { header = e .header; ticket = e .ticket; origin = e .origin; void = true })) e))
+    go : (v u : Bool) → SlotHas cs j (holds
+        (pick v (pick u (record { header = e .header; ticket = e .ticket; origin = none; void = e .void })
+        (record { header = e .header; ticket = e .ticket; origin = e .origin; void = true })) e))
     go true true = s
     go true false = s
     go false u = s
 
-slot-after : (h t : List ℕ) (j c r : ℕ) (p : Place) → SlotHas h t j p → SlotHas h t j (after c r p)
+slot-after : (cs : Commands) (j c r : ℕ) (p : Place) → SlotHas cs j p → SlotHas cs j (after c r p)
 unfolding SlotHas after
-slot-after h t j c r empty s = tt
-slot-after h t j c r (holds e) s = go (concerns c r e)
+slot-after cs j c r empty s = tt
+slot-after cs j c r (holds e) s = go (concerns c r e)
   where
-    go : (u : Bool) → SlotHas h t j (pick u empty (holds e))
+    go : (u : Bool) → SlotHas cs j (pick u empty (holds e))
     go true = tt
     go false = s
 
@@ -183,9 +192,10 @@ module _ (c r : ℕ) where
 
 -- ---- the maps
 
-module _ (x : Window) (h t : List ℕ) (b : Book) (c r g mine : ℕ) (a : Agrees (state x h t) b) (hg : g ≤ 64) (lv : x .voided < 2 ^ 64) (lm : mine < 2 ^ 64) (mine-bit : (d : ℕ) → bitAt mine d ≡ emptiedAt c r (getD (b .held) d empty)) where
+module _ (x : Window) (cs : Commands) (b : Book) (c r g mine : ℕ) (a : Agrees (state x cs) b) (hg : g ≤ 64) (lv : x .voided < 2 ^ 64)
+    (lm : mine < 2 ^ 64) (mine-bit : (d : ℕ) → bitAt mine d ≡ emptiedAt c r (getD (b .held) d empty)) where
   past : (d : ℕ) → 64 ≤ d → getD (b .held) d empty ≡ empty
-  past d l = List·getD-eq-default (b .held) empty {n = d} (omega (arith, a .size))
+  past d l = List·getD-eq-default (b .held) empty {n = d} (omega (arith, all-places (state x cs) b a))
 
   first-lt : 2 ^ g - 1 < 2 ^ 64
   first-lt = omega (arith, pow-mono {i = g} {j = 64} hg)
@@ -200,7 +210,7 @@ module _ (x : Window) (h t : List ℕ) (b : Book) (c r g mine : ℕ) (a : Agrees
   gone-lt = without-lt mine (2 ^ g - 1) lm
 
   pub count-emptied : ones (without mine (2 ^ g - 1)) ≡ sumOf (emptiedAt c r) (drop g (b .held))
-  count-emptied = ones-from (emptiedAt c r) (b .held) g (without mine (2 ^ g - 1)) gone-in gone-out (rw (a .size) gone-lt)
+  count-emptied = ones-from (emptiedAt c r) (b .held) g (without mine (2 ^ g - 1)) gone-in gone-out (rw (all-places (state x cs) b a) gone-lt)
 
   -- a map without what is emptied
   module _ (n : ℕ) where
@@ -210,7 +220,13 @@ module _ (x : Window) (h t : List ℕ) (b : Book) (c r g mine : ℕ) (a : Agrees
     rest-out : (f : Place → ℕ) → f empty ≡ 0 → ((q : Place) → f q < 2) → (d : ℕ) → g ≤ d → bitAt n d ≡ f (getD (b .held) d empty)
         → bitAt (without n (without mine (2 ^ g - 1))) d ≡ f (after c r (getD (b .held) d empty))
     rest-out f z s d l e =
-        omega (arith, bit-without n (without mine (2 ^ g - 1)) d (λ k. e ∙ ap f (past d k) ∙ z) gone-lt, gone-out d l, e, emptied-bit f z c r (getD (b .held) d empty) (s (getD (b .held) d empty)))
+        omega (
+          arith,
+          bit-without n (without mine (2 ^ g - 1)) d (λ k. e ∙ ap f (past d k) ∙ z) gone-lt,
+          gone-out d l,
+          e,
+          emptied-bit f z c r (getD (b .held) d empty) (s (getD (b .held) d empty)),
+        )
 
   module _ (new : ℕ) (new-is : new ≡ pick (eqb r 2) 0 (without (bitAnd mine (2 ^ g - 1)) (x .voided))) where
     both-lt : bitAnd mine (2 ^ g - 1) < 2 ^ 64
@@ -278,7 +294,7 @@ module _ (x : Window) (h t : List ℕ) (b : Book) (c r g mine : ℕ) (a : Agrees
     count-voided = ones-count (voidedAt c r) (ListN.take g (b .held)) new (λ d. go d (decLt d g)) fits
       where
         size : length (ListN.take g (b .held)) ≡ g
-        size = length-take-le g (b .held) (omega (arith, a .size))
+        size = length-take-le g (b .held) (omega (arith, all-places (state x cs) b a))
 
         fits : new < 2 ^ length (ListN.take g (b .held))
         fits = rw size (omega (arith, new-le, pow-pos g))
@@ -295,11 +311,12 @@ module _ (x : Window) (h t : List ℕ) (b : Book) (c r g mine : ℕ) (a : Agrees
         → x' .voided ≡ without (bitOr (x .voided) new) (without mine (2 ^ g - 1)) → length (x' .origins) ≡ 4
         → ((k d : ℕ) → d < g → bitAt (getD (x' .origins) k 0) d ≡ originBit k (before c r (getD (b .held) d empty)))
         → ((k d : ℕ) → g ≤ d → bitAt (getD (x' .origins) k 0) d ≡ originBit k (after c r (getD (b .held) d empty)))
-        → Agrees (state x' h t) (afterLogout b c r g)
+        → Agrees (state x' cs) (afterLogout b c r g)
     unfolding afterLogout Maps next
     left-agrees x' e1 e2 e3 e4 eo oi oo = record {
       next = e1 ∙ a .next;
       handed = e2 ∙ a .handed;
+      share = a .share;
       size = length-left c r g (b .held) ∙ a .size;
       headers-size = a .headers-size;
       tickets-size = a .tickets-size;
@@ -312,9 +329,9 @@ module _ (x : Window) (h t : List ℕ) (b : Book) (c r g mine : ℕ) (a : Agrees
           ∙ sym (void-before c r (getD (b .held) d empty)))
           (λ d l. rest-out (bitOr (x .voided) new) voidBit (unfold voidBit in refl) void-lt d l (void-out d l)));
       origins = λ k. left-all c r g (b .held) (λ d q. bitAt (getD (x' .origins) k 0) d ≡ originBit k q) (oi k) (oo k);
-      slots = rw e1 (left-all c r g (b .held) (λ d q. SlotHas h t ((x .next + d) % 64) q)
-          (λ d l. slot-before h t ((x .next + d) % 64) c r (getD (b .held) d empty) (a .slots d))
-          (λ d l. slot-after h t ((x .next + d) % 64) c r (getD (b .held) d empty) (a .slots d)));
+      in-slots = λ d. rw (slot-stays x x' d e1) (left-all c r g (b .held) (λ d q. SlotHas cs (slotOf x d) q)
+          (λ d l. slot-before cs (slotOf x d) c r (getD (b .held) d empty) (a .in-slots d))
+          (λ d l. slot-after cs (slotOf x d) c r (getD (b .held) d empty) (a .in-slots d)) d);
     }
 
 -- ---- the map of the commands concerned
@@ -329,10 +346,10 @@ unfolding emptiedAt concerns heldBit
 emptied-all c r empty z = refl
 emptied-all c r (holds e) z = rw (eq-eqb r 0 z)
 
-pub concerned-bit : (x : Window) (h t : List ℕ) (b : Book) (c r m : ℕ) → Agrees (state x h t) b → m ≡ pick (eqb r 0) (x .held) (getD (x .origins) c 0)
+pub concerned-bit : (x : Window) (cs : Commands) (b : Book) (c r m : ℕ) → Agrees (state x cs) b → m ≡ pick (eqb r 0) (x .held) (getD (x .origins) c 0)
     → (d : ℕ) → bitAt m d ≡ emptiedAt c r (getD (b .held) d empty)
 unfolding Maps
-concerned-bit x h t b c r m a e d = rw e (go (ℕ-discrete r 0))
+concerned-bit x cs b c r m a e d = rw e (go (ℕ-discrete r 0))
   where
     go : Dec (r ≡ 0) → bitAt (pick (eqb r 0) (x .held) (getD (x .origins) c 0)) d ≡ emptiedAt c r (getD (b .held) d empty)
     go (yes z) = rw (eq-eqb r 0 z) (a .held d ∙ sym (emptied-all c r (getD (b .held) d empty) z))
@@ -341,12 +358,13 @@ concerned-bit x h t b c r m a e d = rw e (go (ℕ-discrete r 0))
 -- ---- the origins that are left
 
 -- the map of connection k where that of c is made empty
-lost-bit : (x : Window) (h t : List ℕ) (b : Book) (c : ℕ) → Agrees (state x h t) b → (k d : ℕ)
+lost-bit : (x : Window) (cs : Commands) (b : Book) (c : ℕ) → Agrees (state x cs) b → (k d : ℕ)
     → bitAt (getD (pick (ltb c 4) (set (x .origins) c 0) (x .origins)) k 0) d ≡ pick (eqb k c) 0 (originBit k (getD (b .held) d empty))
 unfolding Maps
-lost-bit x h t b c a k d = go (decLt c 4) (ℕ-discrete k c)
+lost-bit x cs b c a k d = go (decLt c 4) (ℕ-discrete k c)
   where
-    go : Dec (c < 4) → Dec (k ≡ c) → bitAt (getD (pick (ltb c 4) (set (x .origins) c 0) (x .origins)) k 0) d ≡ pick (eqb k c) 0 (originBit k (getD (b .held) d empty))
+    go : Dec (c < 4) → Dec (k ≡ c) → bitAt (getD (pick (ltb c 4) (set (x .origins) c 0) (x .origins)) k 0) d
+        ≡ pick (eqb k c) 0 (originBit k (getD (b .held) d empty))
     go (yes m) (yes q) = rw (lt-ltb c 4 m, eq-eqb k c q, q, getD-set-same (x .origins) c 0 0 (omega (arith, a .origins-size))) (bit-none d)
     go (yes m) (no q) = rw (lt-ltb c 4 m, ne-eqb k c q, getD-set-other (x .origins) c k 0 0 q) (a .origins k d)
     go (no m) (yes q) =
@@ -370,29 +388,34 @@ each-at l m (suc (suc (suc (suc k)))) e =
 abbrev pub originsLeft : List ℕ → (c r gone : ℕ) → List ℕ
 originsLeft l c r gone = pick (eqb r 2) (pick (ltb c 4) (set l c 0) l) (eachWithout l gone)
 
-module _ (x : Window) (h t : List ℕ) (b : Book) (c r g mine : ℕ) (a : Agrees (state x h t) b) (hg : g ≤ 64) (lv : x .voided < 2 ^ 64) (lm : mine < 2 ^ 64) (mine-bit : (d : ℕ) → bitAt mine d ≡ emptiedAt c r (getD (b .held) d empty)) where
+module _ (x : Window) (cs : Commands) (b : Book) (c r g mine : ℕ) (a : Agrees (state x cs) b) (hg : g ≤ 64) (lv : x .voided < 2 ^ 64)
+    (lm : mine < 2 ^ 64) (mine-bit : (d : ℕ) → bitAt mine d ≡ emptiedAt c r (getD (b .held) d empty)) where
   two : eqb r 2 ≡ true → r ≡ 2
   two e = eqb-true r 2 e
 
-  pub origins-in : (k d : ℕ) → d < g → bitAt (getD (originsLeft (x .origins) c r (without mine (2 ^ g - 1))) k 0) d ≡ originBit k (before c r (getD (b .held) d empty))
+  pub origins-in : (k d : ℕ) → d < g → bitAt (getD (originsLeft (x .origins) c r (without mine (2 ^ g - 1))) k 0) d
+      ≡ originBit k (before c r (getD (b .held) d empty))
   unfolding Maps
   origins-in k d l = go (eqb r 2) refl
     where
-      go : (u : Bool) → eqb r 2 ≡ u → bitAt (getD (originsLeft (x .origins) c r (without mine (2 ^ g - 1))) k 0) d ≡ originBit k (before c r (getD (b .held) d empty))
-      go true e = rw (e, two e) (lost-bit x h t b c a k d ∙ sym (origin-lost k c (getD (b .held) d empty)))
+      go : (u : Bool) → eqb r 2 ≡ u → bitAt (getD (originsLeft (x .origins) c r (without mine (2 ^ g - 1))) k 0) d
+          ≡ originBit k (before c r (getD (b .held) d empty))
+      go true e = rw (e, two e) (lost-bit x cs b c a k d ∙ sym (origin-lost k c (getD (b .held) d empty)))
       go false e =
           rw (e, each-at (x .origins) (without mine (2 ^ g - 1)) k (a .origins-size))
-          (rest-in x h t b c r g mine a hg lv lm mine-bit (getD (x .origins) k 0) d l ∙ a .origins k d ∙ sym (origin-before k c r (getD (b .held) d empty) e))
+          (rest-in x cs b c r g mine a hg lv lm mine-bit (getD (x .origins) k 0) d l ∙ a .origins k d ∙ sym (origin-before k c r (getD (b .held) d empty) e))
 
-  pub origins-out : (k d : ℕ) → g ≤ d → bitAt (getD (originsLeft (x .origins) c r (without mine (2 ^ g - 1))) k 0) d ≡ originBit k (after c r (getD (b .held) d empty))
+  pub origins-out : (k d : ℕ) → g ≤ d
+      → bitAt (getD (originsLeft (x .origins) c r (without mine (2 ^ g - 1))) k 0) d ≡ originBit k (after c r (getD (b .held) d empty))
   unfolding Maps originBit
   origins-out k d l = go (eqb r 2) refl
     where
-      go : (u : Bool) → eqb r 2 ≡ u → bitAt (getD (originsLeft (x .origins) c r (without mine (2 ^ g - 1))) k 0) d ≡ originBit k (after c r (getD (b .held) d empty))
-      go true e = rw (e, two e) (lost-bit x h t b c a k d ∙ sym (origin-emptied k c (getD (b .held) d empty)))
+      go : (u : Bool) → eqb r 2 ≡ u → bitAt (getD (originsLeft (x .origins) c r (without mine (2 ^ g - 1))) k 0) d
+          ≡ originBit k (after c r (getD (b .held) d empty))
+      go true e = rw (e, two e) (lost-bit x cs b c a k d ∙ sym (origin-emptied k c (getD (b .held) d empty)))
       go false e =
           rw (e, each-at (x .origins) (without mine (2 ^ g - 1)) k (a .origins-size))
-          (rest-out x h t b c r g mine a hg lv lm mine-bit (getD (x .origins) k 0) (originBit k) refl (origin-lt k) d l (a .origins k d))
+          (rest-out x cs b c r g mine a hg lv lm mine-bit (getD (x .origins) k 0) (originBit k) refl (origin-lt k) d l (a .origins k d))
 
   pub origins-length : length (originsLeft (x .origins) c r (without mine (2 ^ g - 1))) ≡ 4
   unfolding eachWithout
@@ -405,9 +428,10 @@ module _ (x : Window) (h t : List ℕ) (b : Book) (c r g mine : ℕ) (a : Agrees
 
 -- ---- the step of the book
 
-pub logout-step : (x : Window) (h t : List ℕ) (b : Book) (c r g mine new : ℕ) (a : Agrees (state x h t) b) (hg : g ≤ 64) (lv : x .voided < 2 ^ 64) (lm : mine < 2 ^ 64) (m : (d : ℕ) → bitAt mine d ≡ emptiedAt c r (getD (b .held) d empty))
+pub logout-step : (x : Window) (cs : Commands) (b : Book) (c r g mine new : ℕ) (a : Agrees (state x cs) b) (hg : g ≤ 64) (lv : x .voided < 2 ^ 64)
+    (lm : mine < 2 ^ 64) (m : (d : ℕ) → bitAt mine d ≡ emptiedAt c r (getD (b .held) d empty))
     (f : new ≡ pick (eqb r 2) 0 (without (bitAnd mine (2 ^ g - 1)) (x .voided))) → g ≡ gapless (b .held)
     → bookStep b (logout c r) ≡ step (loggedOut (ones (without mine (2 ^ g - 1))) (ones new)) [] (afterLogout b c r g)
 unfolding bookStep logoutStep
-logout-step x h t b c r g mine new a hg lv lm m f e =
-    rw (← e, count-emptied x h t b c r g mine a hg lv lm m, count-voided x h t b c r g mine a hg lv lm m new f)
+logout-step x cs b c r g mine new a hg lv lm m f e =
+    rw (← e, count-emptied x cs b c r g mine a hg lv lm m, count-voided x cs b c r g mine a hg lv lm m new f)

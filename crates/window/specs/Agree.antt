@@ -1,14 +1,14 @@
--- How the code's window, with the arrays lent to it, stands for a book: bit d of each map, and the slot of the number
--- R + d, for the place d.
-use Prim.Native.Nat.{ℕ, _+_, _*_, _%_, _≤_, min}
+-- Follows the code: how its window, with the arrays lent to it, stands for a book. Bit d of each map is for the place d,
+-- and so is its slot.
+use Prim.Native.Nat.{ℕ, _+_, _-_, _*_, _%_, _^_, _≤_, min}
 use mathlib.Core.Path.{_≡_}
 use mathlib.Core.List.{List, []}
 use lib.ListN.{length, getD, set, replicate}
 use lib.Seq.{paste}
-use lib.Bits.{bitOr}
-use Rattle.store.specs.Slot.{headerSize, slotOf}
-use Rattle.window.specs.Bit.{bitAt}
-use Rattle.window.specs.Book.{places, connections, remembered, Origin, none, connection, Place, empty, holds, Book, next, gapless, freshBook, Call, offer, take, logout, Answer, kept, duplicate, passed, beyond, nothing, command, void, loggedOut, bookStep, isFrom, one-if}
+use Rattle.store.specs.Slot.{headerSize, inSlot}
+use Rattle.place_map.specs.Bit.{bitAt, withBit}
+use Rattle.window.specs.PlaceSlot.{slots, slotOf}
+use Rattle.window.specs.Book.{places, connections, remembered, Origin, none, connection, Place, empty, holds, Book, next, freshBook, Call, offer, take, logout, Answer, kept, duplicate, passed, beyond, nothing, command, void, loggedOut, refused, bookStep, isFrom, one-if}
 use Rattle.window.specs.declared.Window.{Window}
 use Rattle.window.specs.declared.FreshWindow.{FreshWindow}
 use Rattle.window.specs.declared.Offered.{Offered}
@@ -21,7 +21,7 @@ use Rattle.window.specs.declared.Taken.the-variants.{Nothing, Void, Comm
 -- ---- the answers
 
 abbrev pub offerAnswer : Offered → Answer
-offerAnswer (Kept p) = kept
+offerAnswer Kept = kept
 offerAnswer Duplicate = duplicate
 offerAnswer Passed = passed
 offerAnswer Beyond = beyond
@@ -37,26 +37,20 @@ takeAnswer (Out n t o) = command n t (originOf o)
 
 -- ---- the state
 
-pub record State : Type 0 where
-  pub window : Window
+-- The two arrays that are lent to a window: the headers and the tickets of its commands, slot by slot.
+pub record Commands : Type 0 where
   pub headers : List ℕ
   pub tickets : List ℕ
 
-abbrev pub state : Window → List ℕ → List ℕ → State
-state w h t = record { window = w; headers = h; tickets = t }
+abbrev pub commands : (headers tickets : List ℕ) → Commands
+commands h t = record { headers = h; tickets = t }
 
--- The window after an offer: what is kept has its place in the maps.
-unfoldable pub afterOffer : Window → (conn : ℕ) → Offered → Window
-afterOffer w c (Kept p) = record {
-  next = w .next;
-  handed = w .handed;
-  held = bitOr (w .held) p;
-  voided = w .voided;
-  origins = set (w .origins) c (bitOr (getD (w .origins) c 0) p);
-}
-afterOffer w c Duplicate = w
-afterOffer w c Passed = w
-afterOffer w c Beyond = w
+pub record State : Type 0 where
+  pub window : Window
+  pub commands : Commands
+
+abbrev pub state : Window → Commands → State
+state w k = record { window = w; commands = k }
 
 -- What the maps have for a place: held, void, and of connection c.
 unfoldable pub heldBit : Place → ℕ
@@ -76,37 +70,41 @@ unfoldable pub Maps : ℕ → (Place → ℕ) → List Place → Type 0
 Maps n f l = (d : ℕ) → bitAt n d ≡ f (getD l d empty)
 
 -- The slot j has the header and the ticket of a place.
-unfoldable pub SlotHas : List ℕ → List ℕ → ℕ → Place → Type 0
-SlotHas h t j empty = Unit {0}
-SlotHas h t j (holds e) = (slotOf h j ≡ e .header) × (getD t j 0 ≡ e .ticket)
+unfoldable pub SlotHas : Commands → ℕ → Place → Type 0
+SlotHas k j empty = Unit {0}
+SlotHas k j (holds e) = (inSlot (k .headers) j ≡ e .header) × (getD (k .tickets) j 0 ≡ e .ticket)
 
 pub record Agrees (s : State) (b : Book) : Type 0 where
   pub next : s .window .next ≡ next b
   pub handed : s .window .handed ≡ min (b .handed) remembered
-  pub size : length (b .held) ≡ places
-  pub headers-size : length (s .headers) ≡ places * headerSize
-  pub tickets-size : length (s .tickets) ≡ places
+  pub share : b .share ≡ slots
+  pub size : length (b .held) ≡ b .share
+  pub headers-size : length (s .commands .headers) ≡ slots * headerSize
+  pub tickets-size : length (s .commands .tickets) ≡ slots
   pub origins-size : length (s .window .origins) ≡ connections
   pub held : Maps (s .window .held) heldBit (b .held)
   pub voided : Maps (s .window .voided) voidBit (b .held)
   pub origins : (c : ℕ) → Maps (getD (s .window .origins) c 0) (originBit c) (b .held)
-  pub slots : (d : ℕ) → SlotHas (s .headers) (s .tickets) ((s .window .next + d) % places) (getD (b .held) d empty)
+  pub in-slots : (d : ℕ) → SlotHas (s .commands) (slotOf (s .window) d) (getD (b .held) d empty)
 
 -- A fresh window: "keeps 64 headers of 48 bytes, all zero".
 pub record IsFresh (first : ℕ) (r : FreshWindow) : Type 0 where
-  pub agrees : Agrees (state (r .window) (r .headers) (r .tickets)) (freshBook first)
-  pub zero-headers : r .headers ≡ replicate (places * headerSize) 0
-  pub zero-tickets : r .tickets ≡ replicate places 0
-
--- The gapless count of a map of held places.
-pub record Counts (held g : ℕ) : Type 0 where
-  pub fits : g ≤ places
-  pub is : (l : List Place) → length l ≡ places → Maps held heldBit l → g ≡ gapless l
+  pub agrees : Agrees (state (r .window) (commands (r .headers) (r .tickets))) (freshBook first places)
+  pub zero-headers : r .headers ≡ replicate (slots * headerSize) 0
+  pub zero-tickets : r .tickets ≡ replicate slots 0
 
 -- o is the origin of the command at a place.
 unfoldable pub OriginAt : Origin → Place → Type 0
 OriginAt o empty = Unit {0}
 OriginAt o (holds e) = o ≡ e .origin
+
+-- The window w' is w with a command of connection c held at the place d.
+pub record Enters (w : Window) (d c : ℕ) (w' : Window) : Type 0 where
+  pub next : w' .next ≡ w .next
+  pub handed : w' .handed ≡ w .handed
+  pub held : w' .held ≡ withBit (w .held) d
+  pub voided : w' .voided ≡ w .voided
+  pub origins : w' .origins ≡ set (w .origins) c (withBit (getD (w .origins) c 0) d)
 
 -- ---- what a call does
 
@@ -125,17 +123,23 @@ lent (offer n t c h) = []
 lent (take o) = o
 lent (logout c r) = []
 
--- A kept offer changes the slot of its number, and no other byte of the arrays.
-unfoldable pub Puts : (number ticket : ℕ) → (header : List ℕ) → (headers headers' tickets tickets' : List ℕ) → Type 0
-Puts n t h hs hs' ts ts' = (hs' ≡ paste hs (n % places * headerSize) h headerSize) × (ts' ≡ set ts (n % places) t)
+-- How far a number lies from R on; all wraps at 2^32.
+unfoldable pub ahead : Window → (number : ℕ) → ℕ
+ahead w n = (n + (2 ^ 32 - w .next % 2 ^ 32)) % 2 ^ 32
+
+-- A kept offer changes the slot of its place, and no other byte of the arrays.
+unfoldable pub Puts : Window → (number ticket : ℕ) → (header : List ℕ) → Commands → Commands → Type 0
+Puts w n t h k k' =
+    (k' .headers ≡ paste (k .headers) (slotOf w (ahead w n) * headerSize) h headerSize)
+    × (k' .tickets ≡ set (k .tickets) (slotOf w (ahead w n)) t)
 
 abbrev pub Keeps : Call → State → State → Type 0
-Keeps (offer n t c h) s s' = Puts n t h (s .headers) (s' .headers) (s .tickets) (s' .tickets)
+Keeps (offer n t c h) s s' = Puts (s .window) n t h (s .commands) (s' .commands)
 Keeps (take o) s s' = Unit {0}
 Keeps (logout c r) s s' = Unit {0}
 
--- What an answer leaves as it was, of whatever state: an offer that is not kept, and a take of nothing, leave all; a
--- void hand-out leaves the output.
+-- What an answer leaves as it was, of whatever state: an offer that is not kept, a take of nothing, and a refusal leave
+-- all; a void hand-out leaves the output.
 abbrev pub Stays : Call → Answer → State → State → List ℕ → List ℕ → Type 0
 Stays call kept s s' l o = Keeps call s s'
 Stays call duplicate s s' l o = s' ≡ s
@@ -145,6 +149,7 @@ Stays call nothing s s' l o = (s' ≡ s) × (o ≡ l)
 Stays call (command n t w) s s' l o = Unit {0}
 Stays call (void n) s s' l o = o ≡ l
 Stays call (loggedOut e v) s s' l o = Unit {0}
+Stays call (refused n) s s' l o = (s' ≡ s) × (o ≡ l)
 
 -- The contract of a call.
 pub record Did (call : Call) (s : State) (a : Answer) (o : List ℕ) (s' : State) : Type 0 where

@@ -1,4 +1,4 @@
--- Paper 01, 'The command window': what is held, what each call answers, and what is held after it.
+-- Read beside paper 01, 'The command window': what is held, what each call answers, and what is held after it.
 use Prim.Native.Nat.{ℕ, zero, suc, _+_, _-_, _%_, _^_, min}
 use mathlib.Core.Bool.{Bool, true, false, not, _&&_, _||_}
 use mathlib.Core.List.{List, [], _∷_, _++_}
@@ -8,7 +8,7 @@ use lib.ListN.{getD, set, drop, replicate}
 use Rattle.field.specs.Field.{pick}
 use Rattle.store.specs.Slot.{headerSize}
 
--- "64 places".
+-- "64 places": the share of a window of its own.
 abbrev pub places : ℕ
 places = 64
 
@@ -37,10 +37,12 @@ pub data Place : Type 0 where
   empty : Place
   holds : Command → Place
 
--- first: the first number; handed: the count of hand-outs; held: the places of the next 64 numbers.
+-- first: the first number; handed: the count of hand-outs; share: how many numbers from R on may be held; held: the
+-- places of these numbers.
 pub record Book : Type 0 where
   pub first : ℕ
   pub handed : ℕ
+  pub share : ℕ
   pub held : List Place
 
 -- "R is the first number plus that count"; "all wraps at 2^32".
@@ -57,13 +59,13 @@ gapless (holds _ ∷ l) = suc (gapless l)
 unfoldable pub expCmdSN : Book → ℕ
 expCmdSN b = (next b + gapless (b .held)) % 2 ^ 32
 
--- "MaxCmdSN is R plus 63".
+-- "MaxCmdSN is R plus 63": the last number that may be held.
 unfoldable pub maxCmdSN : Book → ℕ
-maxCmdSN b = (next b + (places - 1)) % 2 ^ 32
+maxCmdSN b = (next b + (b .share - 1)) % 2 ^ 32
 
 -- "A fresh session is given its first number": nothing is held.
-unfoldable pub freshBook : (first : ℕ) → Book
-freshBook n = record { first = n % 2 ^ 32; handed = zero; held = replicate places empty }
+unfoldable pub freshBook : (first share : ℕ) → Book
+freshBook n s = record { first = n % 2 ^ 32; handed = zero; share = s; held = replicate s empty }
 
 -- An offer of a numbered command, a take with the output that it lends, the effect of a logout.
 pub data Call : Type 0 where
@@ -71,11 +73,13 @@ pub data Call : Type 0 where
   take : (out : List ℕ) → Call
   logout : (connection reason : ℕ) → Call
 
+-- refused: with the number of a refusal, where the window itself refuses a call. None of 01's calls is.
 pub data Answer : Type 0 where
   kept duplicate passed beyond nothing : Answer
   command : (number ticket : ℕ) → Origin → Answer
   void : (number : ℕ) → Answer
   loggedOut : (emptied voided : ℕ) → Answer
+  refused : (number : ℕ) → Answer
 
 -- The answer to a call, the lent output after it ([] where none is lent), and the book after it.
 pub record Step : Type 0 where
@@ -93,9 +97,9 @@ unfoldable pub distance : Book → ℕ → ℕ
 distance b n = (n + (2 ^ 32 - next b)) % 2 ^ 32
 
 unfoldable pub keeping : Book → ℕ → Command → Book
-keeping b d e = record { first = b .first; handed = b .handed; held = set (b .held) d (holds e) }
+keeping b d e = record { first = b .first; handed = b .handed; share = b .share; held = set (b .held) d (holds e) }
 
--- "below 64, kept, or duplicate if held".
+-- "kept, or duplicate if held".
 unfoldable pub offerAt : Place → Book → ℕ → Command → Step
 offerAt empty b d e = step kept [] (keeping b d e)
 offerAt (holds _) b d e = step duplicate [] b
@@ -104,10 +108,10 @@ offerAt (holds _) b d e = step duplicate [] b
 unfoldable pub wasHandedOut : Book → ℕ → Bool
 wasHandedOut b d = leb (2 ^ 32 - d) (min (b .handed) remembered)
 
--- "otherwise passed if among the last 2^31 handed out, else beyond".
+-- "below 64", the share, "kept, or duplicate if held; otherwise passed if among the last 2^31 handed out, else beyond".
 unfoldable pub offerStep : Book → ℕ → Command → Step
 offerStep b d e =
-    pick (ltb d places) (offerAt (getD (b .held) d empty) b d e) (step (pick (wasHandedOut b d) passed beyond) [] b)
+    pick (ltb d (b .share)) (offerAt (getD (b .held) d empty) b d e) (step (pick (wasHandedOut b d) passed beyond) [] b)
 
 -- ---- take
 
@@ -115,9 +119,9 @@ offerStep b d e =
 unfoldable pub firstPlace : Book → Place
 firstPlace b = getD (b .held) zero empty
 
--- One more is handed out, and the place of R + 64 comes into the window.
+-- One more is handed out, and the place of R plus the share comes into the window.
 unfoldable pub handedOn : Book → Book
-handedOn b = record { first = b .first; handed = suc (b .handed); held = drop 1 (b .held) ++ empty ∷ [] }
+handedOn b = record { first = b .first; handed = suc (b .handed); share = b .share; held = drop 1 (b .held) ++ empty ∷ [] }
 
 -- "Take hands out R if held, with header, ticket and origin, or void; else nothing."
 unfoldable pub takeStep : Place → Book → List ℕ → Step
@@ -182,7 +186,7 @@ sumOf f [] = zero
 sumOf f (p ∷ l) = f p + sumOf f l
 
 unfoldable pub afterLogout : Book → (connection reason g : ℕ) → Book
-afterLogout b c r g = record { first = b .first; handed = b .handed; held = left c r g (b .held) }
+afterLogout b c r g = record { first = b .first; handed = b .handed; share = b .share; held = left c r g (b .held) }
 
 -- "ExpCmdSN is the one before the logout. The answer counts emptied and newly voided."
 unfoldable pub logoutStep : Book → (connection reason g : ℕ) → Step

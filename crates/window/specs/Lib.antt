@@ -1,4 +1,4 @@
--- Definitions of the command window: Book is paper 01's window, Bit and Agree are the code's maps and slots.
+-- Definitions of the command window: Book is paper 01's window, PlaceSlot and Agree are the code's slots and maps.
 pub mod Book
-pub mod Bit
+pub mod PlaceSlot
 pub mod Agree

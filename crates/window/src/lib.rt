@@ -1,22 +1,21 @@
 // The command window (RFC 7143, 4.2.2.1): R, the next CmdSN to hand out, and the 64 places from R on. What a call
-// changes is a small struct by value and two arrays that the caller lends: a number's header and ticket lie in the
-// slot of the number modulo 64, so that handing out moves no bytes.
-mod map;
-
+// changes is a small struct by value and two arrays that the caller lends: a place's header and ticket lie in its slot,
+// and stay there while the place moves to the front, so that handing out moves no bytes.
 ghost use mathlib.Core.Path.{_≡_};
-ghost use Prim.Native.Nat.{ℕ, _+_, _≤_, _<_, min};
-ghost use mathlib.Core.List.{List, []};
+ghost use Prim.Native.Nat.{_+_, _≤_, _<_, min};
+ghost use mathlib.Core.List.{[]};
 ghost use lib.ListN.{length, take, getD, set};
 ghost use lib.Dec.{eqb, ltb};
 ghost use Rattle.store.specs.Slot.{headerSize};
-ghost use Rattle.window.specs.Bit.{without, eachWithout};
+ghost use Rattle.place_map.specs.Bit.{without, eachWithout};
+ghost use Rattle.window.specs.PlaceSlot.{slots, slotOf};
 ghost use Rattle.window.specs.Book.{Book, connections, remembered, expCmdSN, maxCmdSN, Call, Answer, handedOn, firstPlace, closeSession, recovery};
 ghost use Rattle.field.specs.Field.{pick};
-ghost use Rattle.window.specs.Agree.{Agrees, Did, IsFresh, OriginAt, state, offerAnswer, afterOffer, takeAnswer, originOf};
+ghost use Rattle.window.specs.Agree.{Agrees, Did, IsFresh, OriginAt, Commands, commands, state, Enters, offerAnswer, takeAnswer, originOf};
 
-// The places of a window; how many slots they have, and the bytes that these take.
-pub const PLACES: u32 = 64;
-
+// The numbers from R on that may be held.
+const PLACES: u32 = 64;
+// The slots of the lent arrays, and the bytes that these take.
 pub const WINDOW_SLOTS: usize = 64;
 
 pub const WINDOW_BYTES: usize = 3072;
@@ -52,8 +51,7 @@ pub struct FreshWindow {
 }
 
 pub enum Offered {
-    // With the map of its place alone, which is new in the map of the held places and in that of its connection.
-    Kept(u64),
+    Kept,
     Duplicate,
     Passed,
     Beyond,
@@ -73,6 +71,11 @@ pub enum Taken {
         ticket: u32,
         origin: Origin,
     },
+}
+
+pub struct OfferStep {
+    pub answer: Offered,
+    pub window: Window,
 }
 
 pub struct TakeStep {
@@ -106,21 +109,21 @@ pub fn fresh(first: u32) -> FreshWindow
 
 // ExpCmdSN: R plus the count of held numbers without a gap from R.
 pub fn exp_cmd_sn(w: Window) -> u32
-    ensures { λ r. ⌜ ((h t : List ℕ) (b : Book) → Agrees (state w h t) b → r ≡ expCmdSN b) ⌝ }
+    ensures { λ r. ⌜ ((k : Commands) (b : Book) → Agrees (state w k) b → r ≡ expCmdSN b) ⌝ }
 {
-    let gapless = map::gapless(w.held);
+    let gapless = place_map::gapless(w.held);
     std::num::wrapping_add_u32(w.next, gapless)
 }
 
 // MaxCmdSN: R plus 63.
 pub fn max_cmd_sn(w: Window) -> u32
-    ensures { λ r. ⌜ ((h t : List ℕ) (b : Book) → Agrees (state w h t) b → r ≡ maxCmdSN b) ⌝ }
+    ensures { λ r. ⌜ ((k : Commands) (b : Book) → Agrees (state w k) b → r ≡ maxCmdSN b) ⌝ }
 {
     std::num::wrapping_add_u32(w.next, PLACES - 1)
 }
 
 // Offers a numbered command: kept, duplicate, passed or beyond. What is kept is its header, the first 48 bytes of the
-// PDU, with the ticket and the connection; the caller enters its place in the maps.
+// PDU, with the ticket and the connection.
 pub fn offer(
     w: Window,
     number: u32,
@@ -129,28 +132,66 @@ pub fn offer(
     pdu: &[u8],
     headers: &mut [u8; WINDOW_BYTES],
     tickets: &mut [u32; WINDOW_SLOTS],
-) -> Offered
+) -> OfferStep
     requires { ⌜ (conn < connections) × (headerSize ≤ length (now pdu)) ⌝ }
     ensures { λ r. ⌜ Did (Call.offer number ticket conn (take headerSize (now (pdu .entry))))
-        (state w (now (headers .entry)) (now (tickets .entry)))
-        (offerAnswer r) []
-        (state (afterOffer w conn r) (now (headers .exit)) (now (tickets .exit))) ⌝ }
+        (state w (commands (now (headers .entry)) (now (tickets .entry))))
+        (offerAnswer (r .answer)) []
+        (state (r .window) (commands (now (headers .exit)) (now (tickets .exit)))) ⌝ }
 {
     let d = std::num::wrapping_sub_u32(number, w.next);
     if PLACES <= d {
         // d is 2^32 less how far the number lies behind R.
         if u32::MAX - d < w.handed {
-            return Offered::Passed;
+            return OfferStep {
+                answer: Offered::Passed,
+                window: w,
+            };
         }
-        return Offered::Beyond;
+        return OfferStep {
+            answer: Offered::Beyond,
+            window: w,
+        };
     }
-    if map::bit(w.held, d) == 1 {
-        return Offered::Duplicate;
+    if place_map::bit(w.held, d) == 1 {
+        return OfferStep {
+            answer: Offered::Duplicate,
+            window: w,
+        };
     }
-    let slot = (number % PLACES) as usize;
+    let slot = slot_of(w, d);
     store::put(headers, slot * store::HEADER_BYTES, pdu);
     tickets[slot] = ticket;
-    Offered::Kept(map::only(d))
+    let after = entered(w, d, conn);
+    OfferStep {
+        answer: Offered::Kept,
+        window: after,
+    }
+}
+
+// The window with a command of connection conn held at the place d.
+fn entered(w: Window, d: u32, conn: u32) -> Window
+    requires { ⌜ (d < slots) × (conn < connections) ⌝ }
+    ensures { λ r. ⌜ Enters w d conn r ⌝ }
+{
+    let place = place_map::only(d);
+    let m = w.origins;
+    let origins = place_map::with_origin(m, conn, place);
+    Window {
+        next: w.next,
+        handed: w.handed,
+        held: w.held | place,
+        voided: w.voided,
+        origins: origins,
+    }
+}
+
+// The slot of the place d from R on.
+fn slot_of(w: Window, d: u32) -> usize
+    ensures { λ r. ⌜ (r ≡ slotOf w d) × (r < slots) ⌝ }
+{
+    let number = std::num::wrapping_add_u32(w.next, d);
+    (number as usize) % WINDOW_SLOTS
 }
 
 // Takes the next command: R if it is held, its header into the first 48 bytes of out, or void; else nothing.
@@ -162,9 +203,9 @@ pub fn take(
 ) -> TakeStep
     requires { ⌜ headerSize ≤ length (now out) ⌝ }
     ensures { λ r. ⌜ Did (Call.take (now (out .entry)))
-        (state w (now (headers .entry)) (now (tickets .entry)))
+        (state w (commands (now (headers .entry)) (now (tickets .entry))))
         (takeAnswer (r .answer)) (now (out .exit))
-        (state (r .window) (now (headers .entry)) (now (tickets .entry))) ⌝ }
+        (state (r .window) (commands (now (headers .entry)) (now (tickets .entry)))) ⌝ }
 {
     if w.held % 2 == 0 {
         return TakeStep {
@@ -180,7 +221,7 @@ pub fn take(
             window: after,
         };
     }
-    let slot = (next % PLACES) as usize;
+    let slot = slot_of(w, 0);
     let origin = first_origin(w);
     let ticket = tickets[slot];
     store::get(headers, slot * store::HEADER_BYTES, out);
@@ -196,7 +237,7 @@ pub fn take(
 
 // The window after the first place is handed out.
 fn handed_on(w: Window) -> Window
-    ensures { λ r. ⌜ ((h t : List ℕ) (b : Book) → Agrees (state w h t) b → Agrees (state r h t) (handedOn b)) ⌝ }
+    ensures { λ r. ⌜ ((k : Commands) (b : Book) → Agrees (state w k) b → Agrees (state r k) (handedOn b)) ⌝ }
 {
     let next = std::num::wrapping_add_u32(w.next, 1);
     let handed = one_more(w.handed);
@@ -223,7 +264,7 @@ fn one_more(handed: u32) -> u32
 
 // The origin of the command at the first place.
 fn first_origin(w: Window) -> Origin
-    ensures { λ r. ⌜ ((h t : List ℕ) (b : Book) → Agrees (state w h t) b → OriginAt (originOf r) (firstPlace b)) ⌝ }
+    ensures { λ r. ⌜ ((k : Commands) (b : Book) → Agrees (state w k) b → OriginAt (originOf r) (firstPlace b)) ⌝ }
 {
     let m = w.origins;
     if m[0] % 2 == 1 {
@@ -244,14 +285,14 @@ fn first_origin(w: Window) -> Origin
 // The effect of a logout of connection conn, with the ExpCmdSN from before it: of the commands that it concerns those
 // before ExpCmdSN become void, or lose their origin with reason 2, and those after are emptied.
 pub fn logout(w: Window, conn: u32, reason: u8) -> LogoutStep
-    ensures { λ r. ⌜ ((h t : List ℕ)
+    ensures { λ r. ⌜ ((k : Commands)
         → Did (Call.logout conn reason)
-        (state w h t)
+        (state w k)
         (Answer.loggedOut (r .emptied) (r .voided)) []
-        (state (r .window) h t)) ⌝ }
+        (state (r .window) k)) ⌝ }
 {
-    let gapless = map::gapless(w.held);
-    let before = map::below(gapless);
+    let gapless = place_map::gapless(w.held);
+    let before = place_map::below(gapless);
     let concerned = concerned_by(w, conn, reason);
     let emptied = concerned & !before;
     let voided = newly_voided(concerned & before, w.voided, reason);
@@ -278,7 +319,7 @@ fn concerned_by(w: Window, conn: u32, reason: u8) -> u64
         w.held
     } else {
         let m = w.origins;
-        map::of(m, conn)
+        place_map::of(m, conn)
     }
 }
 
@@ -298,8 +339,8 @@ fn origins_left(origins: [u64; CONNS], conn: u32, reason: u8, emptied: u64) -> [
     ensures { λ r. ⌜ r ≡ pick (eqb reason recovery) (pick (ltb conn connections) (set origins conn 0) origins) (eachWithout origins emptied) ⌝ }
 {
     if reason == RECOVERY {
-        map::without_origin(origins, conn)
+        place_map::without_origin(origins, conn)
     } else {
-        map::each_without(origins, emptied)
+        place_map::each_without(origins, emptied)
     }
 }

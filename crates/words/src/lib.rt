@@ -1,7 +1,4 @@
-// PDUs and responses as arrays of 64-bit words: the structs of drawbevel.h.
-pub mod request;
-pub mod response;
-
+// Words: the 64-bit numbers that the structs of drawbevel.h are read into and made of.
 ghost use mathlib.Core.Path.{_≡_};
 ghost use Prim.Native.Nat.{_%_, _^_};
 ghost use Rattle.words.specs.Words.{flagWord};

@@ -13,17 +13,17 @@ use Rattle.ledger.proofs.acknowledge.Tie as tie
 
 returns : tie.Need-returns
 unfolding AcknowledgesAt isGood
-returns c k hs ts b g =
+returns c k ss b g =
     let a = c .before .before .args in
     let n = c .before .place-of .result in
-    let e : n ≡ place b (a .exp-stat-sn) = c .before .place-of .ensures k hs ts b g in
+    let e : n ≡ place b (a .exp-stat-sn) = c .before .place-of .ensures k ss b g in
     let le : place b (a .exp-stat-sn) ≤ length (b .held) = omega (arith, g .held, c .if1 .taken) in
-    (le-leb _ _ le, e, release-agrees k (a .l) _ hs ts b (a .exp-stat-sn) g le refl refl (ap (λ (x : ℕ). a .l .held - x) e))
+    (le-leb _ _ le, e, release-agrees k (a .l) _ ss b (a .exp-stat-sn) g le refl (ap (λ (x : ℕ). a .l .held - x) e))
 
 returns-2 : tie.Need-returns-2
 unfolding AcknowledgesAt isGood
-returns-2 c k hs ts b g =
-    let e = c .before .place-of .ensures k hs ts b g in
+returns-2 c k ss b g =
+    let e = c .before .place-of .ensures k ss b g in
     let lt : length (b .held) < place b (c .before .before .args .exp-stat-sn) = omega (arith, g .held, e, c .if1 .left) in
     lt-leb _ _ lt
 

@@ -5,9 +5,9 @@ use native.Mathlib.Omega.{arith}
 use borrow.Author.Needs.{needs}
 use lib.ListN.{length, length-set}
 use lib.Seq.{length-paste}
-use Rattle.response_header.specs.Response.{ownBytes}
-use Rattle.response_header.proofs.Laid.{length-own}
-use Rattle.ledger.specs.Agree.{Puts}
+use Rattle.response_fields.specs.WholeNumbers.{ownBytes}
+use Rattle.response_fields.proofs.Laid.{length-own}
+use Rattle.ledger.specs.Agree.{statusesIn, Puts}
 use Rattle.ledger.proofs.Laws.{stored-agrees, stored-others}
 use Rattle.ledger.proofs.keep.Statement.{statement}
 use Rattle.ledger.proofs.keep.Tie as tie
@@ -21,8 +21,9 @@ returns c =
     let near : a .c < 4 = omega arith in
     let low : a .l .held < 32 = omega arith in
     rw (c .before .before .place .ensures) (record {
-      agrees = λ b g. stored-agrees (a .c) (a .l) _ (a .ticket) h (a .headers .now) (a .tickets .now) b g low size refl (c .before .wrapping-add-u32 .ensures) refl;
-      others = λ k m b ne g. stored-others (a .c) k (a .l .next) (a .ticket) h (a .headers .now) (a .tickets .now) m b near ne size g;
+      agrees = λ b g. stored-agrees (a .c) (a .l) _ (a .ticket) h (statusesIn (a .headers .now) (a .tickets .now)) b g low size
+          (c .before .wrapping-add-u32 .ensures) refl;
+      others = λ k m b ne g. stored-others (a .c) k (a .l .next) (a .ticket) h (statusesIn (a .headers .now) (a .tickets .now)) m b near ne size g;
       headers-size = λ e. length-paste (a .headers .now) ((a .c * 32 + a .l .next % 32) * 48) h 48 (omega arith) (omega (arith, size)) ∙ e;
       tickets-size = λ e. length-set (a .tickets .now) (a .c * 32 + a .l .next % 32) (a .ticket) ∙ e;
       puts = (refl, refl);

@@ -9,9 +9,8 @@ use Rattle.ledger.proofs.opened.Tie as tie
 returns : tie.Need-returns
 unfolding freshLedger lookup SlotHas
 returns c = record {
-  agrees = λ k hs ts l h t. record {
+  agrees = λ k ss l h t. record {
     near = l;
-    is-open = refl;
     next = omega arith;
     fits = (omega arith);
     held = refl;

@@ -6,10 +6,12 @@ use native.Mathlib.Omega.{arith}
 use borrow.Author.Needs.{needs}
 use lib.ListN.{length}
 use Rattle.ledger.specs.Book.{isStatus}
+use Rattle.ledger.specs.Agree.{statusesIn}
 use Rattle.ledger.proofs.Laws.{sending-refused, sending-unstored, sending-full, sending-stored, sends-refused, sends-unstored, sends-stored}
-use Rattle.response_header.specs.Response.{judgementNumber, ownBytes}
+use Rattle.response_header.specs.Response.{judgementNumber}
+use Rattle.response_fields.specs.WholeNumbers.{ownBytes}
 use Rattle.response_header.specs.declared.Numbers.{Numbers}
-use Rattle.response_header.proofs.Laid.{length-own, front}
+use Rattle.response_fields.proofs.Laid.{length-own, front}
 use Rattle.response_header.specs.declared.Judgement.{Judgement}
 use Rattle.response_header.specs.declared.Judgement.the-variants as J
 use Rattle.refusal.specs.declared.Refusal.the-variants as F
@@ -30,45 +32,52 @@ sure false s e t = let z : _≡_ {A = ℕ} 0 1 = cc in absurd (omega arith)
 
 returns : tie.Need-returns
 returns c =
-    let a = c .before .before .before .before .before .before .before .before .before .before .before .args in
-    let o = c .before .before .before .before .before .before .own in
+    let judged = c .before .before .before .before .before .before .before in
+    let a = judged .before .before .before .before .args in
+    let o = c .before .before .before .before .before .before .own-fields in
     let n : Numbers = record { «stat_sn» = a .l .next; «exp_cmd_sn» = a .exp-cmd-sn; «max_cmd_sn» = a .max-cmd-sn } in
     let h = ownBytes (o .result) n in
     let size = length-own (o .result) n in
-    let ok = fits _ _ (c .before .before .before .before .before .before .before .before .before .judge .ensures) (c .before .before .before .before .before .before .before .enum-told .given .1) in
-    let no : isStatus (a .r) ≡ false = unset _ _ (c .before .before .before .before .before .is-status .ensures) (c .before .before .before .before .if1 .taken) in
+    let ok = fits _ _ (judged .before .before .judge .ensures) (judged .enum-told .given .1) in
+    let no : isStatus (a .r) ≡ false =
+    unset _ _ (c .before .before .before .before .before .is-status .ensures) (c .before .before .before .before .if1 .taken) in
     rw (c .before .before .place .ensures ∙ front (a .out .now) h size)
-    (sends-unstored (a .c) (a .l) (a .ticket) (a .r) (a .exp-cmd-sn) (a .max-cmd-sn) (a .out .now) (a .headers .now) (a .tickets .now)
-    h (sym (o .ensures n)) no (λ b g. sending-unstored b (a .r) ok no))
+    (sends-unstored (a .c) (a .l) (a .ticket) (a .r) (a .max-data) (a .exp-cmd-sn) (a .max-cmd-sn) (a .out .now)
+    (statusesIn (a .headers .now) (a .tickets .now))
+    h (sym (o .ensures n)) no (λ b g. sending-unstored b (a .max-data) (a .r) ok no))
 
 returns-2 : tie.Need-returns-2
 returns-2 c =
     let a = c .before .before .before .before .before .before .before .before .before .args in
-    let ok = fits _ _ (c .before .before .before .before .before .before .before .judge .ensures) (c .before .before .before .before .before .enum-told .given .1) in
+    let ok = fits _ _ (c .before .before .before .before .before .before .before .judge .ensures)
+    (c .before .before .before .before .before .enum-told .given .1) in
     let yes = sure _ _ (c .before .before .before .is-status .ensures) (c .before .before .if1 .left) in
-    sends-refused (a .c) (a .l) (a .ticket) (a .r) (a .exp-cmd-sn) (a .max-cmd-sn) (a .out .now) (a .headers .now) (a .tickets .now)
-    F.Full (λ b g. sending-full b (a .r) ok yes (subst (λ (n : ℕ). 32 ≤ n) (g .held) (c .if2 .taken)))
+    sends-refused (a .c) (a .l) (a .ticket) (a .r) (a .max-data) (a .exp-cmd-sn) (a .max-cmd-sn) (a .out .now) (statusesIn (a .headers .now) (a .tickets .now))
+    F.Full (λ b g. sending-full b (a .max-data) (a .r) ok yes (subst (λ (n : ℕ). 32 ≤ n) (g .held) (c .if2 .taken)))
 
 returns-3 : tie.Need-returns-3
 returns-3 c =
     let a = c .before .before .before .before .before .args in
     let no = rw (c .before .f .given .1) at (c .before .before .before .judge .ensures) in
-    sends-refused (a .c) (a .l) (a .ticket) (a .r) (a .exp-cmd-sn) (a .max-cmd-sn) (a .out .now) (a .headers .now) (a .tickets .now)
-    (c .before .f .given .0 .0) (λ b g. sending-refused b (a .r) (c .before .f .given .0 .0) no)
+    sends-refused (a .c) (a .l) (a .ticket) (a .r) (a .max-data) (a .exp-cmd-sn) (a .max-cmd-sn) (a .out .now) (statusesIn (a .headers .now) (a .tickets .now))
+    (c .before .f .given .0 .0) (λ b g. sending-refused b (a .max-data) (a .r) (c .before .f .given .0 .0) no)
 
 returns-4 : tie.Need-returns-4
 returns-4 c =
-    let a = c .before .before .before .before .before .before .before .before .before .before .before .before .before .before .before .before .args in
-    let o = c .before .before .before .before .before .before .before .before .before .before .before .own in
+    let room = c .before .before .before .before .before .before .before in
+    let o = room .before .before .before .before .own-fields in
+    let judged = room .before .before .before .before .before in
+    let a = judged .before .before .before .before .args in
     let n : Numbers = record { «stat_sn» = a .l .next; «exp_cmd_sn» = a .exp-cmd-sn; «max_cmd_sn» = a .max-cmd-sn } in
     let h = ownBytes (o .result) n in
     let size = length-own (o .result) n in
-    let ok = fits _ _ (c .before .before .before .before .before .before .before .before .before .before .before .before .before .before .judge .ensures) (c .before .before .before .before .before .before .before .before .before .before .before .before .enum-told .given .1) in
-    let yes = sure _ _ (c .before .before .before .before .before .before .before .before .before .before .is-status .ensures) (c .before .before .before .before .before .before .before .before .before .if1 .left) in
+    let ok = fits _ _ (judged .before .before .judge .ensures) (judged .enum-told .given .1) in
+    let yes = sure _ _ (room .before .before .before .is-status .ensures) (room .before .before .if1 .left) in
     rw (c .before .before .before .before .before .place2 .ensures ∙ front (a .out .now) h size)
-    (sends-stored (a .c) (a .l) (a .ticket) (a .r) (a .exp-cmd-sn) (a .max-cmd-sn) (a .out .now) (a .headers .now) (a .tickets .now)
-    h (sym (o .ensures n)) _ _ _ yes size (c .keep .ensures)
-    (λ b g. sending-stored b (a .r) ok yes (subst (λ (k : ℕ). k < 32) (g .held) (c .before .before .before .before .before .before .before .if2 .left))))
+    (sends-stored (a .c) (a .l) (a .ticket) (a .r) (a .max-data) (a .exp-cmd-sn) (a .max-cmd-sn) (a .out .now)
+    (statusesIn (a .headers .now) (a .tickets .now))
+    h (sym (o .ensures n)) _ _ yes size (c .keep .ensures)
+    (λ b g. sending-stored b (a .max-data) (a .r) ok yes (subst (λ (k : ℕ). k < 32) (g .held) (room .if2 .left))))
 
 pub send-spec : {M : Type 1} → statement M
 send-spec =

@@ -17,8 +17,9 @@ unfolding dataOf
 returns c =
     let n = c .before .before .args .p .«data_start» in
     let s = now (c .before .before .args .input) in
+    let m = c .before .before .args .p .«data_segment_length» in
     let h : length s ≤ n = omega arith in
-    sym (ap (λ (l : List ℕ). take (c .before .before .args .p .«data_segment_length») l) (drop-of-length-le s {i = n} h) ∙ take-nil (c .before .before .args .p .«data_segment_length»))
+    sym (ap (λ (l : List ℕ). take m l) (drop-of-length-le s {i = n} h) ∙ take-nil m)
 
 returns-2 : tie.Need-returns-2
 unfolding dataOf

@@ -1,23 +1,27 @@
+use mathlib.Core.Path.{sym, ap, _∙_}
 use borrow.Author.Needs.{needs}
-use Rattle.request_header.proofs.Reading.{good-long}
+use Rattle.request_header.specs.Request.{refused}
+use Rattle.request_header.proofs.Reading.{got-long}
+use Rattle.request_header.proofs.FieldRules.{read-good, read-refused}
 use Rattle.request_pdu.proofs.read.Statement.{statement}
 use Rattle.request_pdu.proofs.read.Tie as tie
 
+returns : tie.Need-returns
+returns c =
+    let e = read-refused _ _ (c .before .before .first-refusal .ensures) (c .before .if1 .taken) in
+    ap refused (sym (c .refusal-of .ensures _ _ e)) ∙ sym e
+
 shared-slice-read-op : tie.Need-shared-slice-read-op
 shared-slice-read-op c =
-    let l = good-long _ _ _ (c .before .before .before .judge .ensures) (c .before .enum-told .given .1) in
+    let l = got-long _ _ _ (read-good _ _ (c .before .before .first-refusal .ensures) (c .before .if1 .left)) in
     search (needs, l)
 
 pdu-requires : tie.Need-pdu-requires
-pdu-requires c κs = good-long _ _ _ (c .before .before .before .judge .ensures) (c .before .enum-told .given .1)
-
-returns : tie.Need-returns
-returns c = rw (← (c .before .before .before .judge .ensures), c .before .f .given .1)
+pdu-requires c κs = got-long _ _ _ (read-good _ _ (c .before .before .first-refusal .ensures) (c .before .if1 .left))
 
 returns-2 : tie.Need-returns-2
-returns-2 c = rw (← (c .before .before .before .before .judge .ensures), c .before .before .enum-told .given .1, c .pdu .ensures)
+returns-2 c = rw (read-good _ _ (c .before .before .before .first-refusal .ensures) (c .before .before .if1 .left), c .pdu .ensures)
 
 pub read-spec : {M : Type 1} → statement M
 read-spec =
-    tie.close (tie.spec
-    (λ c κs. search needs) (λ c. search needs) (λ c. search needs) shared-slice-read-op pdu-requires returns returns-2)
+    tie.close (tie.spec (λ c κs. search needs) (λ c κs. search needs) returns shared-slice-read-op pdu-requires returns-2)

@@ -1,35 +1,34 @@
 -- `session::fresh` meets its contract: the window's and the ledgers' fresh states together.
-use Prim.Native.Nat.{ℕ, zero, suc, _-_, _<_}
+use Prim.Native.Nat.{ℕ, zero, suc, _<_}
 use mathlib.Core.Path.{_≡_, refl}
 use mathlib.Core.Bool.{false}
-use mathlib.Core.List.{List, [], _∷_}
+use mathlib.Core.List.{[], _∷_}
 use native.Mathlib.Omega.{arith}
 use borrow.Author.Needs.{needs}
 use lib.ListN.{getD}
-use Rattle.ledger.specs.Book as L
-use Rattle.ledger.specs.Agree as LA
-use Rattle.ledger.specs.declared.Ledger.{Ledger}
+use Rattle.ledger.specs.Agree.{Statuses}
 use Rattle.book.specs.Book as B
-use Rattle.book.specs.Book.{freshBook}
-use Rattle.session.specs.Agree.{ConnAgrees, ledgerOf, noLedger}
+use Rattle.book.specs.Book.{OpenConnection, openedBy, share, freshBook}
+use Rattle.session_state.specs.declared.Conn.{Conn}
+use Rattle.session_state.specs.After.{noConn, connAt}
+use Rattle.session_state.specs.Agree.{OpenAgrees, ConnAgrees}
 use Rattle.session.proofs.fresh.Statement.{statement}
 use Rattle.session.proofs.fresh.Tie as tie
 
-each : (l n : Ledger) (s : ℕ) (hs ts : List ℕ) → LA.Agrees 0 l hs ts (L.freshLedger s) → n .«is_open» ≡ false → (c : ℕ) → c < 4
-    → ConnAgrees c (getD (l ∷ n ∷ n ∷ n ∷ []) c noLedger) hs ts (getD (B.live (L.freshLedger s) ∷ B.closed ∷ B.closed ∷ B.closed ∷ []) c B.closed)
+each : (x n : Conn) (k : OpenConnection) (ss : Statuses) → OpenAgrees 0 x ss k → n .«is_open» ≡ false → (c : ℕ) → c < 4
+    → ConnAgrees c (getD (x ∷ n ∷ n ∷ n ∷ []) c noConn) ss (getD (B.live k ∷ B.closed ∷ B.closed ∷ B.closed ∷ []) c B.closed)
 unfolding ConnAgrees
-each l n s hs ts a e zero h = a
-each l n s hs ts a e (suc zero) h = e
-each l n s hs ts a e (suc (suc zero)) h = e
-each l n s hs ts a e (suc (suc (suc zero))) h = e
-each l n s hs ts a e (suc (suc (suc (suc c)))) h = absurd (omega arith)
+each x n k ss a e zero h = a
+each x n k ss a e (suc zero) h = e
+each x n k ss a e (suc (suc zero)) h = e
+each x n k ss a e (suc (suc (suc zero))) h = e
+each x n k ss a e (suc (suc (suc (suc c)))) h = absurd (omega arith)
 
 returns : tie.Need-returns
-unfolding freshBook ledgerOf ConnAgrees
+unfolding freshBook openedBy share connAt ConnAgrees
 returns c =
-    let w = c .before .before .before .before .before .fresh in
-    let o = c .before .opened in
-    let n = c .closed in
+    let w = c .before .before .before .before .fresh in
+    let o = c .opened in
     record {
       agrees = record {
         level = refl;
@@ -38,7 +37,7 @@ returns c =
         book-size = refl;
         statuses-size = search needs;
         tickets-size = search needs;
-        conns = each (o .result) (n .result) (c .before .before .before .before .before .before .args .stat-sn) _ _ (o .ensures .agrees 0 _ _ (omega arith) (search needs) (search needs)) (n .ensures);
+        conns = each _ _ _ _ (record { is-open = refl; limits = refl; longest = refl; ledger = o .ensures .agrees 0 _ (omega arith) (search needs) (search needs) }) refl;
       };
       zero-headers = w .ensures .zero-headers;
       zero-tickets = w .ensures .zero-tickets;
@@ -47,4 +46,4 @@ returns c =
     }
 
 pub fresh-spec : {M : Type 1} → statement M
-fresh-spec = tie.close (tie.spec (λ c κs. search needs) (λ c κs. search needs) (λ c κs. search needs) returns)
+fresh-spec = tie.close (tie.spec (λ c κs. search needs) (λ c κs. search needs) returns)

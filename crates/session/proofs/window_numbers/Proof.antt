@@ -1,21 +1,19 @@
 -- `session::window_numbers` meets its contract: the window's two numbers.
-use Prim.Native.Nat.{ℕ, _-_}
+use Prim.Native.Nat.{ℕ}
 use mathlib.Core.Path.{refl, sym, ap₂}
-use mathlib.Core.List.{[]}
 use borrow.Author.Needs.{needs}
-use Rattle.book.specs.Book as B
-use Rattle.book.specs.Book.{bookStep, step}
-use Rattle.session.proofs.Steps.{met}
+use Rattle.book.specs.Book.{noOutputs, numbers, bookStep, step}
+use Rattle.session_state.proofs.Steps.{met}
 use Rattle.session.proofs.window_numbers.Statement.{statement}
 use Rattle.session.proofs.window_numbers.Tie as tie
 
 returns : tie.Need-returns
 unfolding bookStep
-returns c h t hs ts =
+returns c k ss =
     let e = c .before .exp-cmd-sn in
     let m = c .max-cmd-sn in
     record {
-      meets = λ b g. met _ _ _ _ _ b b (ap₂ (λ (x y : ℕ). step (B.numbers x y) [] b) (sym (e .ensures h t (b .window) (g .window))) (sym (m .ensures h t (b .window) (g .window)))) g;
+      meets = λ b g. met _ _ _ _ _ b b (ap₂ (λ (x y : ℕ). step (numbers x y) noOutputs b) (sym (e .ensures k (b .window) (g .window))) (sym (m .ensures k (b .window) (g .window)))) g;
       stays = refl;
     }
 

@@ -28,6 +28,7 @@ returns c = record {
   agrees = record {
     next = omega arith;
     handed = refl;
+    share = refl;
     size = refl;
     headers-size = search needs;
     tickets-size = search needs;
@@ -35,7 +36,7 @@ returns c = record {
     held = maps-none heldBit 64 (unfold heldBit in refl);
     voided = maps-none voidBit 64 (unfold voidBit in refl);
     origins = no-origin;
-    slots = λ d. rw (all-empty 64 d) (unfold SlotHas in tt);
+    in-slots = λ d. rw (all-empty 64 d) (unfold SlotHas in tt);
   };
   zero-headers = search needs;
   zero-tickets = search needs;

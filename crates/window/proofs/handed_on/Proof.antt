@@ -19,9 +19,10 @@ halves l e (suc (suc (suc (suc k)))) =
     rw out
 
 returns : tie.Need-returns
-returns c h t b g =
+returns c cs b g =
     let w = c .before .before .before .before .before .args .w in
-    shift-agrees w _ h t b g (c .before .before .before .before .wrapping-add-u32 .ensures) (c .before .before .before .one-more .ensures) refl refl refl (halves (w .origins) (g .origins-size))
+    shift-agrees w _ cs b g (c .before .before .before .before .wrapping-add-u32 .ensures)
+    (c .before .before .before .one-more .ensures) refl refl refl (halves (w .origins) (g .origins-size))
 
 pub handed-on-spec : {M : Type 1} → statement M
 handed-on-spec =

@@ -1,6 +1,6 @@
 -- `window::newly_voided` meets its contract.
 use borrow.Author.Tests.{eq-eqb, ne-eqb}
-use Rattle.window.specs.Bit.{without}
+use Rattle.place_map.specs.Bit.{without}
 use Rattle.window.proofs.newly_voided.Statement.{statement}
 use Rattle.window.proofs.newly_voided.Tie as tie
 

@@ -3,8 +3,10 @@ use Prim.Native.Nat.{_%_}
 use mathlib.Core.Path.{_≡_, refl}
 use mathlib.Core.List.{_++_}
 use lib.ListN.{drop}
-use Rattle.store.specs.Slot.{slotOf}
+use Rattle.store.specs.Slot.{inSlot}
 use Rattle.window.specs.Book.{take, nothing, handedOn}
+use Rattle.window.specs.PlaceSlot.{slotOf}
+use Rattle.window.specs.Agree.{commands}
 use Rattle.window.proofs.Steps.{met, take-nothing, take-void, take-command}
 use borrow.Author.Needs.{needs}
 use Rattle.window.proofs.take.Statement.{statement}
@@ -13,27 +15,39 @@ use Rattle.window.proofs.take.Tie as tie
 returns : tie.Need-returns
 returns c =
     let a = c .before .before .before .args in
-    record { meets = λ b g. met _ _ nothing _ _ b b (take-nothing (a .w) (a .headers .now) (a .tickets .now) b (a .out .now) g (c .if1 .taken)) g; stays = (refl, refl) }
+    record {
+      meets = λ b g. met _ _ nothing _ _ b b
+          (take-nothing (a .w) (commands (a .headers .now) (a .tickets .now)) b (a .out .now) g (c .if1 .taken)) g;
+      stays = (refl, refl);
+    }
 
 returns-2 : tie.Need-returns-2
 returns-2 c =
     let a = c .before .before .before .before .before .before .args in
     record {
-      meets = λ b g. met _ _ _ _ _ b (handedOn b) (take-void (a .w) (a .headers .now) (a .tickets .now) b (a .out .now) g (c .if2 .taken)) (c .before .before .handed-on .ensures _ _ b g);
+      meets = λ b g. met _ _ _ _ _ b (handedOn b) (take-void (a .w) (commands (a .headers .now) (a .tickets .now)) b (a .out .now) g (c .if2 .taken))
+          (c .before .before .handed-on .ensures _ b g);
       stays = refl;
     }
 
 returns-3 : tie.Need-returns-3
 returns-3 c =
-    let a = c .before .before .before .before .before .before .before .before .before .before .before .before .before .args in
+    let got = c .before .before .get in
+    let before-get = c .before .before .before .before .before .before in
+    let slot = before-get .before .slot-of in
+    let is-whole = before-get .before .before .if2 .left in
+    let on = before-get .before .before .before .before .handed-on in
+    let is-held = before-get .before .before .before .before .before .if1 .left in
+    let a = before-get .before .before .before .before .before .before .before .before .args in
     let h = a .headers .now in
-    let t = a .tickets .now in
-    let e : c .before .before .get .last .1 .1 .0 ≡ slotOf h (a .w .next % 64) ++ drop 48 (a .out .now) = unfold slotOf in c .before .before .get .ensures in
+    let cs = commands h (a .tickets .now) in
+    let e : got .last .1 .1 .0 ≡ inSlot h (slot .result) ++ drop 48 (a .out .now) = unfold inSlot in got .ensures in
+    let at : slot .result ≡ slotOf (a .w) 0 = slot .ensures .0 in
     record {
       meets = λ b g.
-          rw e (met _ _ _ _ _ b (handedOn b)
-          (take-command (a .w) h t b _ (a .out .now) g (c .before .before .before .before .before .before .before .before .before .before .if1 .left) (c .before .before .before .before .before .before .before .if2 .left) (c .before .before .before .before .before .before .first-origin .ensures h t b g))
-          (c .before .before .before .before .before .before .before .before .before .handed-on .ensures h t b g));
+          rw (e, at) (met _ _ _ _ _ b (handedOn b)
+          (take-command (a .w) cs b _ (a .out .now) g is-held is-whole (before-get .first-origin .ensures cs b g))
+          (on .ensures cs b g));
       stays = tt;
     }
 

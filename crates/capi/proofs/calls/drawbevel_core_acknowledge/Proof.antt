@@ -1,26 +1,32 @@
-use Rattle.session.specs.Agree.{acknowledgeAnswer}
+use Rattle.session_statuses.specs.Answer.{acknowledgeAnswer}
 use borrow.Author.Needs.{needs}
 use Rattle.capi.proofs.calls.drawbevel_core_acknowledge.Statement.{statement}
 use Rattle.capi.proofs.calls.drawbevel_core_acknowledge.Tie as tie
 
 returns : tie.Need-returns
-returns c h t hs ts =
+returns c k ss =
+    let load = c .before .before .before .before .before .load .ensures in
+    let call = c .before .before .before .before .acknowledge in
     let e = c .before .before .f .given .1 in
     record {
-      answer = acknowledgeAnswer (c .before .before .before .before .acknowledge .result);
-      did = rw (← (c .before .before .before .before .before .load .ensures), e) (rw e at (c .before .before .before .before .acknowledge .ensures h t hs ts));
+      answer = acknowledgeAnswer (call .result);
+      did = rw (← load, e) (rw e at (call .ensures k ss));
       words = rw e (c .pack-refused .ensures);
     }
 
 returns-2 : tie.Need-returns-2
-returns-2 c h t hs ts =
+returns-2 c k ss =
+    let load = c .before .before .before .before .before .before .before .load .ensures in
+    let call = c .before .before .before .before .before .before .acknowledge in
     let e = c .before .before .before .before .count .given .1 in
     record {
-      answer = acknowledgeAnswer (c .before .before .before .before .before .before .acknowledge .result);
-      did = rw (c .before .store-ledger .ensures, ← (c .before .before .before .before .before .before .before .load .ensures), e) (rw e at (c .before .before .before .before .before .before .acknowledge .ensures h t hs ts));
+      answer = acknowledgeAnswer (call .result);
+      did = rw (c .before .store-ledger .ensures, ← load, e) (rw e at (call .ensures k ss));
       words = rw e (c .pack .ensures);
     }
 
 pub drawbevel-core-acknowledge-spec : {M : Type 1} → statement M
 drawbevel-core-acknowledge-spec =
-    tie.close (tie.spec (λ c κs. search needs) (λ c κs. search needs) (λ c. search needs) (λ c κs. search needs) (λ c. search needs) (λ c κs. search needs) (λ c κs. search needs) returns returns-2)
+    tie.close (tie.spec
+    (λ c κs. search needs) (λ c κs. search needs) (λ c. search needs) (λ c κs. search needs) (λ c. search needs) (λ c κs. search needs)
+    (λ c κs. search needs) returns returns-2)

@@ -1,27 +1,33 @@
-use Rattle.session.specs.Agree.{logoutAnswer}
+use Rattle.session_connections.specs.Answer.{logoutAnswer}
 use borrow.Author.Needs.{needs}
+use Rattle.capi.proofs.Unchanged.{refused-leaves}
 use Rattle.capi.proofs.calls.drawbevel_core_logout.Statement.{statement}
 use Rattle.capi.proofs.calls.drawbevel_core_logout.Tie as tie
 
 returns : tie.Need-returns
-returns c h t hs ts =
+returns c k ss =
+    let load = c .before .before .before .before .before .before .load .ensures in
+    let call = c .before .before .before .before .before .logout in
     let e = c .before .before .a .given .1 in
     record {
-      answer = logoutAnswer (c .before .before .before .before .before .logout .result .answer);
-      did = rw (← (c .before .before .before .before .before .before .load .ensures), e) (rw e at (c .before .before .before .before .before .logout .ensures h t hs ts));
+      answer = logoutAnswer (call .result .answer);
+      did = rw (← load, e) (refused-leaves (rw e at (call .ensures k ss)));
       words = rw e (c .refused .ensures);
     }
 
 returns-2 : tie.Need-returns-2
-returns-2 c h t hs ts =
+returns-2 c k ss =
+    let load = c .before .before .before .before .before .before .before .before .before .before .before .load .ensures in
+    let call = c .before .before .before .before .before .before .before .before .before .before .logout in
     let e = c .before .before .before .before .before .before .before .a2 .given .1 in
     record {
-      answer = logoutAnswer (c .before .before .before .before .before .before .before .before .before .before .logout .result .answer);
-      did = rw (c .before .close .ensures, c .before .before .before .store-window .ensures, ← (c .before .before .before .before .before .before .before .before .before .before .before .load .ensures), e) (rw e at (c .before .before .before .before .before .before .before .before .before .before .logout .ensures h t hs ts));
+      answer = logoutAnswer (call .result .answer);
+      did = rw (c .before .close .ensures, c .before .before .before .store-window .ensures, ← load, e) (rw e at (call .ensures k ss));
       words = rw e;
     }
 
 pub drawbevel-core-logout-spec : {M : Type 1} → statement M
 drawbevel-core-logout-spec =
     tie.close (tie.spec
-    (λ c κs. search needs) (λ c κs. search needs) (λ c. search needs) (λ c κs. search needs) (λ c. search needs) (λ c κs. search needs) (λ c κs. search needs) returns returns-2)
+    (λ c κs. search needs) (λ c κs. search needs) (λ c. search needs) (λ c κs. search needs) (λ c. search needs) (λ c κs. search needs)
+    (λ c κs. search needs) returns returns-2)

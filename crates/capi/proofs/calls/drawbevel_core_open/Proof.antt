@@ -1,26 +1,32 @@
-use Rattle.session.specs.Agree.{openAnswer}
+use Rattle.session_connections.specs.Answer.{openAnswer}
 use borrow.Author.Needs.{needs}
 use Rattle.capi.proofs.calls.drawbevel_core_open.Statement.{statement}
 use Rattle.capi.proofs.calls.drawbevel_core_open.Tie as tie
 
 returns : tie.Need-returns
-returns c h t hs ts =
+returns c k ss =
+    let load = c .before .before .before .before .before .load .ensures in
+    let call = c .before .before .before .before .open-connection in
     let e = c .before .before .f .given .1 in
     record {
-      answer = openAnswer (c .before .before .before .before .open-connection .result);
-      did = rw (← (c .before .before .before .before .before .load .ensures), e) (rw e at (c .before .before .before .before .open-connection .ensures h t hs ts));
+      answer = openAnswer (call .result);
+      did = rw (← load, e) (rw e at (call .ensures k ss));
       words = rw e (c .pack-refused .ensures);
     }
 
 returns-2 : tie.Need-returns-2
-returns-2 c h t hs ts =
-    let e = c .before .before .before .before .l .given .1 in
+returns-2 c k ss =
+    let load = c .before .before .before .before .before .before .before .load .ensures in
+    let call = c .before .before .before .before .before .before .open-connection in
+    let e = c .before .before .before .before .k .given .1 in
     record {
-      answer = openAnswer (c .before .before .before .before .before .before .open-connection .result);
-      did = rw (c .before .store-ledger .ensures, ← (c .before .before .before .before .before .before .before .load .ensures), e) (rw e at (c .before .before .before .before .before .before .open-connection .ensures h t hs ts));
+      answer = openAnswer (call .result);
+      did = rw (c .before .store-conn .ensures, ← load, e) (rw e at (call .ensures k ss));
       words = rw e (c .pack .ensures);
     }
 
 pub drawbevel-core-open-spec : {M : Type 1} → statement M
 drawbevel-core-open-spec =
-    tie.close (tie.spec (λ c κs. search needs) (λ c κs. search needs) (λ c. search needs) (λ c κs. search needs) (λ c. search needs) (λ c κs. search needs) (λ c κs. search needs) returns returns-2)
+    tie.close (tie.spec
+    (λ c κs. search needs) (λ c κs. search needs) (λ c. search needs) (λ c κs. search needs) (λ c. search needs) (λ c κs. search needs)
+    (λ c κs. search needs) returns returns-2)

@@ -1,12 +1,12 @@
-use Rattle.session.specs.Agree.{resendAnswer}
+use Rattle.session_statuses.specs.Answer.{resendAnswer}
 use borrow.Author.Needs.{needs}
 use Rattle.capi.proofs.calls.drawbevel_core_resend.Statement.{statement}
 use Rattle.capi.proofs.calls.drawbevel_core_resend.Tie as tie
 
 returns : tie.Need-returns
-returns c h t = record {
+returns c k = record {
   answer = resendAnswer (c .before .before .before .resend .result);
-  did = rw (← (c .before .before .before .before .before .load .ensures)) (c .before .before .before .resend .ensures h t);
+  did = rw (← (c .before .before .before .before .before .load .ensures)) (c .before .before .before .resend .ensures k);
   words = c .resent .ensures;
 }
 

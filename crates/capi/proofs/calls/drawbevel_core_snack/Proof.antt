@@ -1,12 +1,12 @@
-use Rattle.session.specs.Agree.{snackAnswer}
+use Rattle.session_statuses.specs.Answer.{snackAnswer}
 use borrow.Author.Needs.{needs}
 use Rattle.capi.proofs.calls.drawbevel_core_snack.Statement.{statement}
 use Rattle.capi.proofs.calls.drawbevel_core_snack.Tie as tie
 
 returns : tie.Need-returns
-returns c h t hs ts = record {
+returns c k ss = record {
   answer = snackAnswer (c .before .snack .result);
-  did = rw (← (c .before .before .load .ensures)) (c .before .snack .ensures h t hs ts);
+  did = rw (← (c .before .before .load .ensures)) (c .before .snack .ensures k ss);
   words = c .run .ensures;
 }
 

@@ -4,9 +4,9 @@ use Rattle.capi.proofs.calls.drawbevel_core_window.Statement.{statement
 use Rattle.capi.proofs.calls.drawbevel_core_window.Tie as tie
 
 returns : tie.Need-returns
-returns c h t hs ts = record {
+returns c k ss = record {
   answer = numbers (c .before .window-numbers .result .«exp_cmd_sn») (c .before .window-numbers .result .«max_cmd_sn»);
-  did = rw (← (c .before .before .load .ensures)) (c .before .window-numbers .ensures h t hs ts);
+  did = rw (← (c .before .before .load .ensures)) (c .before .window-numbers .ensures k ss);
   words = c .numbers .ensures;
 }
 

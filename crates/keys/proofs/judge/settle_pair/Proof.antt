@@ -1,6 +1,6 @@
 -- The definition goes by the same cases: an unknown key, then each judgement.
 use native.Mathlib.Omega.{arith}
-use Rattle.keys.specs.Judge.{after}
+use Rattle.keys.specs.Contracts.{after}
 use borrow.Author.Tests.{eq-eqb, ne-eqb}
 use Rattle.keys.proofs.judge.settle_pair.Statement.{statement}
 use Rattle.keys.proofs.judge.settle_pair.Tie as tie

@@ -1,6 +1,6 @@
 -- What the PDU is to the login, and what is done with it; its data lies within the PDU.
-use Rattle.login.proofs.Answers.{found-step, found-login}
-use Rattle.login.specs.Code.{endOf, isLogin}
+use Rattle.login.proofs.Answers.{found-refused, found-login}
+use Rattle.login.specs.Contracts.{endOf, isLogin}
 use Rattle.login.specs.declared.request.Found.{Found}
 use mathlib.Core.Path.{_≡_, ap, subst}
 use Prim.Native.Nat.{_-_, _+_, _≤_}
@@ -22,12 +22,12 @@ request-step-requires : tie.Need-request-step-requires
 request-step-requires c κs = c .before .before .before .before .before .before .find-login .ensures .lent (ap isLogin (c .before .before .before .before .f2 .given .1))
 
 returns : tie.Need-returns
-returns c = let a = c .before .before .before .before .before .before .before .before .args in found-step (a .l) (now (a .pdu)) (a .live) (a .new) (now (a .ours)) (now (a .gather)) (now (a .text)) _ (c .before .before .before .find-login .ensures) _ (c .before .f .given .1)
+returns c = let a = c .before .before .before .before .before .before .before .before .args in found-refused (a .l) (now (a .pdu)) (a .live) (a .new) (now (a .ours)) (now (a .gather)) (now (a .text)) _ (c .before .before .before .find-login .ensures) _ (c .before .f .given .1)
 
 returns-2 : tie.Need-returns-2
 returns-2 c =
     let a = c .before .before .before .before .before .before .before .before .before .before .before .before .before .before .before .before .args in
-    found-login (a .l) (now (a .pdu)) (a .live) (a .new) (now (a .ours)) (now (a .gather)) (now (a .text)) _ (c .before .before .before .before .before .before .before .before .before .before .before .find-login .ensures) _ _ _ _ (c .before .before .before .before .before .before .before .before .before .f2 .given .1) (c .before .before .before .before .request-step .ensures)
+    found-login (a .l) (now (a .pdu)) (a .live) (a .new) (now (a .ours)) (now (a .gather)) (now (a .text)) _ (c .before .before .before .before .before .before .before .before .before .before .before .find-login .ensures) _ _ _ _ _ _ (c .before .before .before .before .before .before .before .before .before .f2 .given .1) (c .before .before .before .before .request-step .ensures)
 
 pub login-request-spec : {M : Type 1} → statement M
 login-request-spec =

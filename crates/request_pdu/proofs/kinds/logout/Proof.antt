@@ -2,6 +2,9 @@ use borrow.Author.Needs.{needs}
 use Rattle.request_pdu.proofs.kinds.logout.Statement.{statement}
 use Rattle.request_pdu.proofs.kinds.logout.Tie as tie
 
+returns : tie.Need-returns
+returns c = rw (c .be16 .ensures)
+
 pub logout-spec : {M : Type 1} → statement M
 logout-spec = tie.close (tie.spec
-    (λ c. search needs) (λ c κs. search needs) (λ c. cc))
+    (λ c. search needs) (λ c κs. search needs) returns)

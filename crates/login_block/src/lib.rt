@@ -1,0 +1,2 @@
+// The pairs of a block of the login phase, judged and answered.
+pub mod block;

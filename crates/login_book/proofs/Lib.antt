@@ -1,0 +1,4 @@
+pub mod Checks
+pub mod Reading
+pub mod Values
+pub mod Demand

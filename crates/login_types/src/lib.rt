@@ -1,0 +1,2 @@
+// A login between requests, and what a request is answered.
+pub mod state;

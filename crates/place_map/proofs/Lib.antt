@@ -1,0 +1,2 @@
+-- Laws of the maps' bits.
+pub mod Bits

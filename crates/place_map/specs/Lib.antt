@@ -1,0 +1,2 @@
+-- Definitions of the maps' bits.
+pub mod Bit

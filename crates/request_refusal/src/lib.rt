@@ -1,0 +1,87 @@
+// The refusals of a request PDU by its bytes, as numbers: a number goes back in a register, an enum through memory.
+use field::HEADER_BYTES;
+use refusal::Refusal;
+use request_header::Limits;
+use request_header::lengths::data_length;
+use request_header::lengths::data_start;
+use request_rules::login_ok;
+use request_rules::logout_ok;
+use request_rules::nop_out_ok;
+use request_rules::scsi_command_ok;
+use request_rules::snack_ok;
+use request_rules::task_management_ok;
+ghost use mathlib.Core.Path.{_≡_};
+ghost use mathlib.Core.Bool.{true};
+ghost use mathlib.Core.List.{List};
+ghost use Prim.Native.Nat.{ℕ, _≤_};
+ghost use lib.ListN.{length};
+ghost use Rattle.refusal.specs.Refusal.{number as numberOf};
+ghost use Rattle.request_header.specs.declared.Limits.{Limits};
+ghost use Rattle.request_header.specs.Request.{known, opcodeOf, readPdu, refused};
+ghost use Rattle.request_header.specs.Verdicts.{fieldsOk, BeforeField, firstRefusal};
+
+// Whether the opcode names a request that is read here.
+fn is_known(op: u8) -> bool
+    ensures { λ r. ⌜ r ≡ known op ⌝ }
+{
+    (op <= 3) | (op == 0x06) | (op == 0x10)
+}
+
+// The number of the refusal before FIELD: LENGTH under 48 bytes, OPCODE, TOOLONG, LENGTH; 0 for none. Every reader begins with it.
+pub fn refusal_before_field(input: &[u8], limits: Limits) -> u8
+    ensures { λ r. ⌜ BeforeField limits (now (input .entry)) r ⌝ }
+{
+    if input.len() < HEADER_BYTES {
+        return 4;
+    }
+    if !is_known(input[0] % 64) {
+        return 2;
+    }
+    let data_length = data_length(input);
+    if (limits.data_segment as usize) < data_length {
+        return 5;
+    }
+    if input.len() != data_start(input) + (data_length + 3) / 4 * 4 {
+        return 4;
+    }
+    0
+}
+
+// The rules of the kind that the opcode names.
+fn fields_ok(s: &[u8], limits: Limits) -> bool
+    requires { ⌜ (48 ≤ length (now s)) × (known (opcodeOf (now s)) ≡ true) ⌝ }
+    ensures { λ r. ⌜ r ≡ fieldsOk limits (opcodeOf (now (s .entry))) (now (s .entry)) ⌝ }
+{
+    let op = s[0] % 64;
+    match op {
+        0x00 => nop_out_ok(s),
+        0x01 => scsi_command_ok(s),
+        0x02 => task_management_ok(s, limits),
+        0x03 => login_ok(s),
+        0x06 => logout_ok(s),
+        _ => snack_ok(s),
+    }
+}
+
+// The number of the first refusal, FIELD last; 0 for a good PDU.
+pub fn first_refusal(input: &[u8], limits: Limits) -> u8
+    ensures { λ r. ⌜ r ≡ firstRefusal limits (now (input .entry)) ⌝ }
+{
+    let f = refusal_before_field(input, limits);
+    if f != 0 {
+        return f;
+    }
+    if fields_ok(input, limits) { 0 } else { 3 }
+}
+
+// The refusal whose number reading answered.
+pub fn refusal_of(number: u8) -> Refusal
+    ensures { λ r. ⌜ ((m : Limits) (s : List ℕ) → readPdu m s ≡ refused number → number ≡ numberOf r) ⌝ }
+{
+    match number {
+        2 => Refusal::Opcode,
+        3 => Refusal::Field,
+        4 => Refusal::Length,
+        _ => Refusal::TooLong,
+    }
+}

@@ -1,0 +1,13 @@
+-- A header's 48 bytes from whole numbers. This file follows the code, and who reviews the rules doesn't need it: `headerBytes` of
+-- response_header/specs/Response has them.
+use Prim.Native.Nat.{ℕ}
+use mathlib.Core.List.{List, _++_}
+use Rattle.field.specs.Field.{bytesOf}
+use Rattle.response_header.specs.declared.Numbers.{Numbers}
+use Rattle.response_fields.specs.declared.OwnFields.{OwnFields}
+
+-- a response's own numbers, and between them the three that all carry
+unfoldable pub ownBytes : OwnFields → Numbers → List ℕ
+ownBytes o n =
+    bytesOf 8 (o .«at_0») ++ (bytesOf 8 (o .«at_8») ++ (bytesOf 8 (o .«at_16»)
+    ++ (bytesOf 4 (n .«stat_sn») ++ (bytesOf 4 (n .«exp_cmd_sn») ++ (bytesOf 4 (n .«max_cmd_sn») ++ (bytesOf 4 (o .«at_36») ++ bytesOf 8 (o .«at_40»)))))))

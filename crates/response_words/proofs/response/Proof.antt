@@ -1,0 +1,49 @@
+use mathlib.Core.Path.{_≡_, refl, sym, ap, _∙_}
+use borrow.Author.Needs.{needs}
+use borrow.Author.Tests.{lt-ltb, le-ltb, le-leb, lt-leb, eq-eqb, ne-eqb, not-true, not-false}
+use Rattle.response_words.specs.ResponseWords.{responseOf}
+use Rattle.response_words.proofs.response.Statement.{statement}
+use Rattle.response_words.proofs.response.Tie as tie
+
+returns : tie.Need-returns
+unfolding responseOf
+returns c = rw (c .before .match .keys1, c .nop-in .ensures)
+
+returns-2 : tie.Need-returns-2
+unfolding responseOf
+returns-2 c = rw (c .before .match .keys2, c .scsi-response .ensures)
+
+returns-3 : tie.Need-returns-3
+unfolding responseOf
+returns-3 c = rw (c .before .match .keys3, c .task-management-response .ensures)
+
+returns-4 : tie.Need-returns-4
+unfolding responseOf
+returns-4 c = rw (c .before .match .keys4, c .login-response .ensures)
+
+returns-5 : tie.Need-returns-5
+unfolding responseOf
+returns-5 c = rw (c .before .match .keys5, c .logout-response .ensures)
+
+returns-6 : tie.Need-returns-6
+unfolding responseOf
+returns-6 c = rw (c .before .before .match .keys6, c .low8 .ensures)
+
+returns-7 : tie.Need-returns-7
+unfolding responseOf
+returns-7 c =
+    let n = c .match .rest in simp (
+      ne-eqb _ _ (n .0 .0 .0 .0 .0 .1),
+      ne-eqb _ _ (n .0 .0 .0 .0 .1),
+      ne-eqb _ _ (n .0 .0 .0 .1),
+      ne-eqb _ _ (n .0 .0 .1),
+      ne-eqb _ _ (n .0 .1),
+      ne-eqb _ _ (n .1),
+    )
+
+pub response-spec : {M : Type 1} → statement M
+response-spec =
+    tie.close (tie.spec
+    (λ c. search needs) (λ c κs. search needs) (λ c κs. search needs) (λ c κs. search needs) (λ c κs. search needs)
+    (λ c κs. search needs) (λ c. search needs) (λ c κs. search needs) returns returns-2 returns-3 returns-4 returns-5
+    returns-6 returns-7)

@@ -1,0 +1,65 @@
+// A response header written: made of its fields and the three numbers, and put into a lent buffer.
+use field::HEADER_BYTES;
+use field::pair;
+use field::put;
+use refusal::Refusal;
+use response_fields::OwnFields;
+use response_fields::own_fields;
+use response_header::Judgement;
+use response_header::Numbers;
+use response_header::Response;
+use response_header::judge::judge;
+ghost use mathlib.Core.Path.{_≡_};
+ghost use Prim.Native.Nat.{_+_, _≤_};
+ghost use lib.ListN.{length};
+ghost use lib.Seq.{paste};
+ghost use Rattle.response_header.specs.Response.{headerBytes};
+ghost use Rattle.response_fields.specs.WholeNumbers.{ownBytes};
+ghost use Rattle.response_writer.specs.Writing.{Outcome, answered, writing};
+
+pub enum WriteAnswer {
+    Written,
+    Refused(Refusal),
+}
+
+// Writes the header into the 48 bytes from at on, in six stores.
+pub fn place(out: &mut [u8], at: usize, o: OwnFields, n: Numbers)
+    requires { ⌜ at + 48 ≤ length (now out) ⌝ }
+    ensures { λ _. ⌜ now (out .exit) ≡ paste (now (out .entry)) at (ownBytes o n) 48 ⌝ }
+{
+    let numbers = pair(n.stat_sn, n.exp_cmd_sn);
+    let last = pair(n.max_cmd_sn, o.at_36);
+    put(out, at, o.at_0);
+    put(out, at + 8, o.at_8);
+    put(out, at + 16, o.at_16);
+    put(out, at + 24, numbers);
+    put(out, at + 32, last);
+    put(out, at + 40, o.at_40);
+}
+
+// The header of a response with these numbers.
+pub fn header(r: Response, n: Numbers) -> [u8; 48]
+    ensures { λ h. ⌜ h ≡ headerBytes r n ⌝ }
+{
+    let mut h = [0u8; 48];
+    let o = own_fields(r);
+    place(&mut h, 0, o, n);
+    h
+}
+
+// Writes the header into the first 48 bytes of out, or refuses: BUFFER, TOOLONG, FIELD.
+pub fn write(out: &mut [u8], r: Response, n: Numbers, max_data: u32) -> WriteAnswer
+    ensures { λ w. ⌜ _≡_ {A = Outcome} (record { answer = answered w; bytes = now (out .exit) }) (writing «max_data» (now (out .entry)) r n) ⌝ }
+{
+    if out.len() < HEADER_BYTES {
+        return WriteAnswer::Refused(Refusal::Buffer);
+    }
+    match judge(r, max_data) {
+        Judgement::Refused(f) => WriteAnswer::Refused(f),
+        Judgement::Fits => {
+            let o = own_fields(r);
+            place(out, 0, o, n);
+            WriteAnswer::Written
+        }
+    }
+}

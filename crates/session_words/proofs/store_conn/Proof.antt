@@ -1,0 +1,26 @@
+use native.Mathlib.Omega.{arith}
+use lib.ListN.{length-set}
+use borrow.Author.Needs.{needs}
+use Rattle.session_words.proofs.Kept.{conn-kept, conn-far}
+use Rattle.session_words.proofs.store_conn.Statement.{statement}
+use Rattle.session_words.proofs.store_conn.Tie as tie
+
+slice-write-n-2 : tie.Need-slice-write-n-2
+slice-write-n-2 c = simp length-set (omega arith)
+
+slice-write-n-3 : tie.Need-slice-write-n-3
+slice-write-n-3 c = simp length-set (omega arith)
+
+returns : tie.Need-returns
+returns c m =
+    let start = c .before .before .before .before in
+    let a = start .args in
+    rw (c .open-word .ensures) (conn-kept (a .conn) (a .n .now) m (a .k) (start .pre) (c .before .before .if1 .taken))
+
+returns-2 : tie.Need-returns-2
+returns-2 c m = let a = c .before .before .args in conn-far (a .conn) _ (a .k) (c .if1 .left)
+
+pub store-conn-spec : {M : Type 1} → statement M
+store-conn-spec =
+    tie.close (tie.spec
+    (λ c. search needs) (λ c. search needs) (λ c κs. search needs) (λ c. search needs) (λ c. search needs) (λ c. search needs) (λ c. search needs) slice-write-n-2 (λ c. search needs) (λ c. search needs) slice-write-n-3 (λ c. search needs) returns returns-2)
