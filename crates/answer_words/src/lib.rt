@@ -1,15 +1,16 @@
 // A session's answers as four words, and as one number where there is one value at most.
 use refusal::Refusal;
 use session::WindowNumbers;
+use session_snack::SnackAnswer;
 use session_statuses::ResendAnswer;
-use session_statuses::SnackAnswer;
 use window::Offered;
 use window::Origin;
 use window::Taken;
 ghost use mathlib.Core.Path.{_≡_};
 ghost use mathlib.Core.List.{[], _∷_};
 ghost use Rattle.book.specs.Book.{Answer, fromWindow};
-ghost use Rattle.session_statuses.specs.Answer.{snackAnswer, resendAnswer};
+ghost use Rattle.session_statuses.specs.Answer.{resendAnswer};
+ghost use Rattle.session_snack.specs.Answer.{snackAnswer};
 ghost use Rattle.refusal.specs.Refusal.{number};
 ghost use Rattle.window.specs.Agree.{originOf};
 ghost use Rattle.answer_words.specs.Answer.{originWord, answerWords, packed};

@@ -191,7 +191,7 @@ pub extern "C" fn drawbevel_core_snack(
         (state (sessionOf (now (n .entry)) (now (m .entry))) k ss)) ⌝ }
 {
     let s = load(n, m);
-    let a = session_statuses::snack(s, conn, pdu);
+    let a = session_snack::snack(s, conn, pdu);
     *answer = answer_words::run(a);
 }
 

@@ -15,12 +15,12 @@ use print::put_with;
 use response_header::Reject;
 use response_header::Response;
 use session::FreshSession;
+use session_snack::SnackAnswer;
 use session_state::Session;
 use session_state::after_ledger;
 use session_statuses::AcknowledgeAnswer;
 use session_statuses::ResendAnswer;
 use session_statuses::SendAnswer;
-use session_statuses::SnackAnswer;
 
 fn after_send(s: Session, conn: u32, a: SendAnswer) -> Session {
     match a {
@@ -80,7 +80,7 @@ pub(crate) fn acknowledge(f: FreshSession, conn: u32, exp_stat_sn: u32) -> Fresh
 pub(crate) fn snack(f: FreshSession, conn: u32, beg_run: u32, run_length: u32) {
     called(SNACK, conn, beg_run, run_length);
     let s = f.session;
-    match session_statuses::snack(s, conn, &status_snack(beg_run, run_length)) {
+    match session_snack::snack(s, conn, &status_snack(beg_run, run_length)) {
         SnackAnswer::Refused(f) => put_refused(f),
         SnackAnswer::Run { first, count } => came(RUN, first, count),
     }

@@ -19,7 +19,8 @@ use Rattle.session_state.specs.History.{Ran, Booked, history}
 use Rattle.session_commands.specs.Answer.{offerAnswer, takeAnswer}
 use Rattle.session_connections.specs.Answer.{openAnswer, logoutAnswer}
 use Rattle.session_connections.specs.After.{afterOpen, afterLogout}
-use Rattle.session_statuses.specs.Answer.{sendAnswer, afterSend, acknowledgeAnswer, afterAcknowledge, snackAnswer, resendAnswer}
+use Rattle.session_statuses.specs.Answer.{sendAnswer, afterSend, acknowledgeAnswer, afterAcknowledge, resendAnswer}
+use Rattle.session_snack.specs.Answer.{snackAnswer}
 use Rattle.session.specs.Fresh.{freshState}
 use Rattle.session_commands.proofs.offer.Reads as offer-r
 use Rattle.session_commands.proofs.offer.Kinds as offer-k
@@ -33,8 +34,8 @@ use Rattle.session_statuses.proofs.send.Reads as send-r
 use Rattle.session_statuses.proofs.send.Kinds as send-k
 use Rattle.session_statuses.proofs.acknowledge.Reads as acknowledge-r
 use Rattle.session_statuses.proofs.acknowledge.Kinds as acknowledge-k
-use Rattle.session_statuses.proofs.snack.Reads as snack-r
-use Rattle.session_statuses.proofs.snack.Kinds as snack-k
+use Rattle.session_snack.proofs.snack.Reads as snack-r
+use Rattle.session_snack.proofs.snack.Kinds as snack-k
 use Rattle.session_statuses.proofs.resend.Reads as resend-r
 use Rattle.session_statuses.proofs.resend.Kinds as resend-k
 use Rattle.session.proofs.fresh.Reads as fresh-r

@@ -1,5 +1,5 @@
-// A session whole: made fresh, and its window's two numbers. The other calls stand in session_commands, session_connections and
-// session_statuses, over session_state. What is proved of every list of calls from a fresh session stands here (proofs/Tied).
+// A session whole: made fresh, and its window's two numbers. The other calls stand in session_commands, session_connections,
+// session_statuses and session_snack, over session_state. What is proved of every list of calls from a fresh session stands here (proofs/Tied).
 use book::Given;
 use ledger::LEDGER_BYTES;
 use ledger::LEDGER_SLOTS;

@@ -1,20 +1,18 @@
--- The book's step at a send, an acknowledgement, a SNACK and a resend, by its outcome.
-use Prim.Native.Nat.{ℕ, _<_}
-use mathlib.Core.Path.{_≡_, refl, ap, _∙_}
+-- The book's step at a send, an acknowledgement and a resend, by its outcome.
+use Prim.Native.Nat.{ℕ}
+use mathlib.Core.Path.{_≡_, refl, ap}
 use mathlib.Core.Bool.{true, false}
 use mathlib.Core.List.{List, _++_}
 use native.Mathlib.Omega.{arith}
 use borrow.Author.Tests.{eq-eqb, ne-eqb}
 use lib.ListN.{drop}
-use Rattle.request_header.specs.Request.{limits, readPdu}
 use Rattle.response_header.specs.Response.{maxData}
 use Rattle.response_header.specs.declared.Response.{Response}
 use Rattle.window.specs.Book as W
 use Rattle.ledger.specs.Book as L
 use Rattle.ledger.specs.Agree as LA
 use Rattle.ledger.specs.declared.Renewal.{Renewal}
-use Rattle.book.specs.Book.{OpenConnection, withLedger, live, Book, Outputs, outputs, noOutputs, written, send, acknowledge, snack, resend, Choice, refused, sent, acknowledged, run, resent, step, connOf, withConn, onConnection, lending, sendAs, sendBy, acknowledgeBy, runStep, Asked, asked, deniedRun, from, snackBy, renewal, shown, resendBy, bookStep}
-use Rattle.session_state.proofs.Steps.{reach-open}
+use Rattle.book.specs.Book.{OpenConnection, withLedger, live, Book, Outputs, outputs, noOutputs, written, send, acknowledge, resend, Choice, refused, sent, acknowledged, resent, step, withConn, onConnection, lending, sendAs, sendBy, acknowledgeBy, renewal, shown, resendBy, bookStep}
 
 -- ---- each call, by its connection
 
@@ -25,11 +23,6 @@ send-eq b c t r o x = refl
 pub acknowledge-eq : (b : Book) (c e : ℕ) (x : Choice) → bookStep b (acknowledge c e) x ≡ onConnection b c noOutputs (acknowledgeBy b c e)
 unfolding bookStep
 acknowledge-eq b c e x = refl
-
-pub snack-eq : (b : Book) (c : ℕ) (p : List ℕ) (x : Choice)
-    → bookStep b (snack c p) x ≡ onConnection b c noOutputs (λ k. snackBy b (k .ledger) (asked (b .given .level) (readPdu (k .limits) p)))
-unfolding bookStep
-snack-eq b c p x = refl
 
 pub resend-eq : (b : Book) (c n : ℕ) (o : Outputs) (x : Choice) → bookStep b (resend c n o) x ≡ lending b o (onConnection b c o (resendBy b n o))
 unfolding bookStep
@@ -88,27 +81,3 @@ pub acknowledge-good : (b : Book) (c e n : ℕ) (k : OpenConnection) → L.isGoo
     → acknowledgeBy b c e k ≡ step (acknowledged n) noOutputs (withConn b c (live (withLedger k (L.released (k .ledger) e))))
 unfolding acknowledgeBy
 acknowledge-good b c e n k h p = rw (h, p)
-
--- ---- SNACK
-
-pub snack-live : (b : Book) (c : ℕ) (p : List ℕ) (k : OpenConnection) (y : Asked) (v : ℕ) (x : Choice) → c < 4 → connOf b c ≡ live k → k .limits ≡ limits → v ≡ b .given .level
-    → y ≡ asked v (readPdu limits p) → bookStep b (snack c p) x ≡ snackBy b (k .ledger) y
-unfolding bookStep
-snack-live b c p k y v x l e m ev h =
-    reach-open b c noOutputs (λ q. snackBy b (q .ledger) (asked (b .given .level) (readPdu (q .limits) p))) k l e ∙ rw (m, ← ev, ← h)
-
-pub snack-refused : (b : Book) (q : L.LedgerBook) (n : ℕ) → snackBy b q (deniedRun n) ≡ step (refused n) noOutputs b
-unfolding snackBy
-snack-refused b q n = refl
-
-pub snack-run : (b : Book) (q : L.LedgerBook) (f n : ℕ) (x : L.Run) → x ≡ L.runOf q f n → snackBy b q (from f n) ≡ runStep b x
-unfolding snackBy
-snack-run b q f n x e = rw (← e)
-
-pub run-none : (b : Book) → runStep b L.notHeld ≡ step (refused 12) noOutputs b
-unfolding runStep
-run-none b = refl
-
-pub run-some : (b : Book) (f n : ℕ) → runStep b (L.run f n) ≡ step (run f n) noOutputs b
-unfolding runStep
-run-some b f n = refl

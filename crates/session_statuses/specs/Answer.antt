@@ -1,18 +1,13 @@
 -- Paper 01's number and values of each answer, and the session after it.
 use Prim.Native.Nat.{ℕ}
 use Rattle.refusal.specs.Refusal.{number}
-use Rattle.book.specs.Book as Book
-use Rattle.book.specs.Book.{Answer, refused, sent, acknowledged, run, resent, deniedRun, from}
+use Rattle.book.specs.Book.{Answer, refused, sent, acknowledged, resent}
 use Rattle.session_state.specs.declared.Session.{Session}
 use Rattle.session_state.specs.After.{afterLedger}
 use Rattle.session_statuses.specs.declared.SendAnswer.{SendAnswer}
 use Rattle.session_statuses.specs.declared.SendAnswer.the-variants as SendA
 use Rattle.session_statuses.specs.declared.AcknowledgeAnswer.{AcknowledgeAnswer}
 use Rattle.session_statuses.specs.declared.AcknowledgeAnswer.the-variants as AcknowledgeA
-use Rattle.session_statuses.specs.declared.Asked.{Asked}
-use Rattle.session_statuses.specs.declared.Asked.the-variants as S
-use Rattle.session_statuses.specs.declared.SnackAnswer.{SnackAnswer}
-use Rattle.session_statuses.specs.declared.SnackAnswer.the-variants as SnackA
 use Rattle.session_statuses.specs.declared.ResendAnswer.{ResendAnswer}
 use Rattle.session_statuses.specs.declared.ResendAnswer.the-variants as ResendA
 
@@ -34,15 +29,6 @@ abbrev pub afterAcknowledge : Session → ℕ → AcknowledgeAnswer → Session
 afterAcknowledge s c (AcknowledgeA.Refused f) = s
 afterAcknowledge s c (AcknowledgeA.Acknowledged n l) = afterLedger s c l
 
-abbrev pub snackAnswer : SnackAnswer → Answer
-snackAnswer (SnackA.Refused f) = refused (number f)
-snackAnswer (SnackA.Run f n) = run f n
-
 abbrev pub resendAnswer : ResendAnswer → Answer
 resendAnswer (ResendA.Refused f) = refused (number f)
 resendAnswer (ResendA.Resent t) = resent t
-
--- of the inner functions: what a SNACK asks for
-abbrev pub askedOf : Asked → Book.Asked
-askedOf (S.Refused f) = deniedRun (number f)
-askedOf (S.Run b n) = from b n

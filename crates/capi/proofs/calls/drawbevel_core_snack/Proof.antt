@@ -1,4 +1,4 @@
-use Rattle.session_statuses.specs.Answer.{snackAnswer}
+use Rattle.session_snack.specs.Answer.{snackAnswer}
 use borrow.Author.Needs.{needs}
 use Rattle.capi.proofs.calls.drawbevel_core_snack.Statement.{statement}
 use Rattle.capi.proofs.calls.drawbevel_core_snack.Tie as tie

@@ -1,13 +1,13 @@
--- `session_statuses::snack` meets its contract: the ledger's run, of what the PDU asks for.
+-- `session_snack::snack` meets its contract: the ledger's run, of what the PDU asks for.
 use Prim.Native.Nat.{_≤_}
 use mathlib.Core.Path.{refl, _∙_}
 use borrow.Author.Needs.{needs}
 use Rattle.book.specs.Book.{noOutputs}
 use Rattle.session_state.specs.Agree.{state}
 use Rattle.session_state.proofs.Steps.{met, refusing, reach-none, reach-closed, open-at}
-use Rattle.session_statuses.proofs.Outcomes.{snack-eq, snack-live, snack-refused, snack-run, run-none, run-some}
-use Rattle.session_statuses.proofs.snack.Statement.{statement}
-use Rattle.session_statuses.proofs.snack.Tie as tie
+use Rattle.session_snack.proofs.Outcomes.{snack-eq, snack-live, snack-refused, snack-run, run-none, run-some}
+use Rattle.session_snack.proofs.snack.Statement.{statement}
+use Rattle.session_snack.proofs.snack.Tie as tie
 
 returns : tie.Need-returns
 returns c k ss =

@@ -1,8 +1,8 @@
--- `session_statuses::run_in` meets its contract: type and level, then the run.
+-- `session_snack::run_in` meets its contract: type and level, then the run.
 use Prim.Native.Nat.{_-_}
 use borrow.Author.Needs.{needs}
-use Rattle.session_statuses.proofs.run_in.Statement.{statement}
-use Rattle.session_statuses.proofs.run_in.Tie as tie
+use Rattle.session_snack.proofs.run_in.Statement.{statement}
+use Rattle.session_snack.proofs.run_in.Tie as tie
 
 returns : tie.Need-returns
 returns c = rw (c .before .before .if1 .taken, c .before .be32 .ensures, c .be322 .ensures)

@@ -1,10 +1,10 @@
--- `session_statuses::read_snack` meets its contract: reading's refusals pass through, and past those before FIELD only a SNACK asks for a run.
+-- `session_snack::read_snack` meets its contract: reading's refusals pass through, and past those before FIELD only a SNACK asks for a run.
 use mathlib.Core.Path.{_≡_, refl, sym, ap, _∙_}
 use borrow.Author.Needs.{needs}
 use Rattle.book.specs.Book.{asked, deniedRun}
-use Rattle.session_statuses.proofs.Requests.{not-asked, snack-asked}
-use Rattle.session_statuses.proofs.read_snack.Statement.{statement}
-use Rattle.session_statuses.proofs.read_snack.Tie as tie
+use Rattle.session_snack.proofs.Requests.{not-asked, snack-asked}
+use Rattle.session_snack.proofs.read_snack.Statement.{statement}
+use Rattle.session_snack.proofs.read_snack.Tie as tie
 
 returns : tie.Need-returns
 returns c =
