@@ -1,12 +1,13 @@
--- Big-endian fields, over the width: reading (`be-suc`, `be-lt`, `be-split`) and writing (`bytes-join`, `bytes-cut`; `sets-append`, `paste-sets`).
+-- Big-endian fields, over the width: reading (`be-suc`, `be-lt`) and writing (`bytes-join`, `bytes-cut`; `sets-append`, `paste-sets`).
+-- And bytes copied one by one, over their count (`Pasting`).
 use mathlib.Core.Path.{_≡_, refl, sym, ap, subst, _∙_}
 use mathlib.Core.List.{List, [], _∷_, _++_, append-assoc, append-nil}
 use Prim.Native.Nat.{ℕ, zero, suc, _+_, _*_, _/_, _%_, _^_, _<_, _≤_}
-use native.Mathlib.Nat.{pow-suc, mod-lt, div-add-mod', zero-add, add-assoc, mul-assoc, add-suc, suc-add, add-zero}
+use native.Mathlib.Nat.{pow-suc, mod-lt, div-add-mod', zero-add, mul-assoc, add-suc, suc-add, add-zero}
 use native.Mathlib.Numerals.{add-one}
 use native.Mathlib.Omega.{arith}
-use lib.ListN.{length, getD, set, take, length-append}
-use lib.Seq.{paste, sets, sets-eq, take-all}
+use lib.ListN.{length, getD, set, take, length-append, length-set}
+use lib.Seq.{paste, paste-zero, paste-suc, sets, sets-eq, take-all}
 use Rattle.field.specs.Field.{beAt, bytesOf}
 
 pub be-suc : (s : List ℕ) (at n : ℕ) → beAt s at (n + 1) ≡ beAt s at n * 256 + getD s (at + n) 0
@@ -18,14 +19,6 @@ pub be-lt : (s : List ℕ) (at n : ℕ) → ((i : ℕ) → getD s i 0 < 256) →
 unfolding beAt
 be-lt s at zero h = omega arith
 be-lt s at (suc n) h = rw pow-suc (omega (arith, be-lt s at n h, h (at + n)))
-
--- a number of n + m bytes is its first n bytes, then its last m
-pub be-split : (s : List ℕ) (at n m : ℕ) → beAt s at (n + m) ≡ beAt s at n * 256 ^ m + beAt s (at + n) m
-unfolding beAt
-be-split s at n zero = rw add-zero (omega arith)
-be-split s at n (suc m) =
-    let a = beAt s at n in
-    rw (add-suc, pow-suc, add-assoc, ← (mul-assoc a (256 ^ m) 256)) (omega (arith, be-split s at n m))
 
 pub length-bytes : (n v : ℕ) → length (bytesOf n v) ≡ n
 unfolding bytesOf
@@ -69,3 +62,24 @@ pub paste-sets : (l : List ℕ) (at : ℕ) (b : List ℕ) (n : ℕ) → length b
 paste-sets l at b n e h =
     let all : take n b ≡ b = ap (λ (k : ℕ). take k b) (sym e) ∙ take-all (length b) b (omega arith) in
     rw (all, ← e) (sym (sets-eq b l at (subst (λ (k : ℕ). at + k ≤ length l) (sym e) h)))
+
+-- a loop that copies n bytes of s into d from `at` on: i of them are copied, and x is what d is then
+abbrev pub Pasting : ℕ → List ℕ → ℕ → List ℕ → List ℕ → ℕ → Type 0
+Pasting n d at s x i = (i ≤ n) × (x ≡ paste d at s i) × (length x ≡ length d)
+
+module _ (n : ℕ) (d : List ℕ) (at : ℕ) (s : List ℕ) where
+  pub paste-none : Pasting n d at s d 0
+  paste-none = (omega arith, paste-zero d at s, refl)
+
+  pub paste-next : at + n ≤ length d → length s ≡ n → (x : List ℕ) (i : ℕ) → i < n → Pasting n d at s x i
+      → Pasting n d at s (set x (at + i) (getD s i 0)) (i + 1)
+  paste-next b e x i l p = (
+    omega arith,
+    rw (p .1, add-one) (paste-suc d at s i 0 (omega arith) (omega arith)),
+    length-set x (at + i) (getD s i 0) ∙ p .2,
+  )
+
+  pub paste-last : (x : List ℕ) (i : ℕ) → n ≤ i → Pasting n d at s x i → x ≡ paste d at s n
+  paste-last x i l p =
+      let e : i ≡ n = omega arith in
+      rw e at (p .1)

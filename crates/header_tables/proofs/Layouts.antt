@@ -12,7 +12,7 @@ use lib.ListN.{length, getD}
 use Rattle.field.specs.Field.{beAt, bytesOf, pick, bit, byte}
 use Rattle.header_tables.specs.Table.{Fits, sound, written, readBy, count, named, filled}
 use Rattle.header_tables.specs.Layout.{Kind, nopOut, scsiCommand, taskManagement, login, logout, snack, nopIn, scsiResponse, taskManagementResponse, loginResponse, logoutResponse, reject, tableOf, bitOf, responseKind, requestKind, responseFields, requestFields, ResponseFits, NumbersFit}
-use Rattle.response_header.specs.Response.{headerBytes, kindFields, weigh, refusalIn, dataLengthIn, fieldsFit}
+use Rattle.response_header.specs.Response.{headerBytes, kindFields, weigh, refusalIn, dataLengthIn, tooLong, fieldsFit}
 use Rattle.request_header.specs.Request.{readPdu, got, known, opcodeOf, sharedOk, pduOf, requestOf}
 use Rattle.request_header.specs.declared.Limits.{Limits}
 use Rattle.request_header.specs.declared.Pdu.{Pdu}
@@ -81,11 +81,16 @@ refusal-zero true b e = absurd (omega arith)
 refusal-zero false true e = (refl, refl)
 refusal-zero false false e = absurd (omega arith)
 
-unrefused : (max : ℕ) (r : Response) → refusalIn max r ≡ 0 → (dataLengthIn r ≤ max) × (fieldsFit r ≡ true)
+neither : (a b : Bool) → (a || b) ≡ false → a ≡ false
+neither true b e = let z : _≡_ {A = ℕ} 0 1 = cc in absurd (omega arith)
+neither false b e = refl
+
+-- whatever the limit, a data length that is not refused has room in three bytes
+unrefused : (max : ℕ) (r : Response) → refusalIn max r ≡ 0 → (dataLengthIn r ≤ 0xffffff) × (fieldsFit r ≡ true)
 unfolding refusalIn
 unrefused max r e =
-    let u = refusal-zero (ltb max (dataLengthIn r)) (fieldsFit r) e in
-    (ltb-false max (dataLengthIn r) (u .0), u .1)
+    let u = refusal-zero (tooLong max (dataLengthIn r)) (fieldsFit r) e in
+    (ltb-false 0xffffff (dataLengthIn r) (neither (ltb 0xffffff (dataLengthIn r)) (ltb max (dataLengthIn r)) (u .0)), u .1)
 
 ands : (a b : Bool) → (a && b) ≡ true → (a ≡ true) × (b ≡ true)
 ands true b e = (refl, e)
@@ -96,19 +101,19 @@ bit-lt true = lit< tt
 bit-lt false = lit< tt
 
 -- a response that is not refused fits its table
-pub response-fits : (max : ℕ) (r : Response) (n : Numbers) → max < 2 ^ 24 → refusalIn max r ≡ 0 → ResponseFits r → NumbersFit n → Fits (tableOf (responseKind r)) (values r n)
-response-fits max (R.NopIn r) n m e f g = omega (arith, unrefused max (R.NopIn r) e .0)
-response-fits max (R.ScsiResponse r) n m e f g = (omega arith, (omega (arith, bit-lt (r .overflow), bit-lt (r .underflow)), omega (arith, unrefused max (R.ScsiResponse r) e .0)))
-response-fits max (R.TaskManagementResponse r) n m e f g = omega arith
-response-fits max (R.LoginResponse r) n m e f g =
+pub response-fits : (max : ℕ) (r : Response) (n : Numbers) → refusalIn max r ≡ 0 → ResponseFits r → NumbersFit n → Fits (tableOf (responseKind r)) (values r n)
+response-fits max (R.NopIn r) n e f g = omega (arith, unrefused max (R.NopIn r) e .0)
+response-fits max (R.ScsiResponse r) n e f g = (omega arith, (omega (arith, bit-lt (r .overflow), bit-lt (r .underflow)), omega (arith, unrefused max (R.ScsiResponse r) e .0)))
+response-fits max (R.TaskManagementResponse r) n e f g = omega arith
+response-fits max (R.LoginResponse r) n e f g =
     let u = unrefused max (R.LoginResponse r) e in
     let a = ands _ (r .transit || eqb (r .nsg) 0) (u .1) in
     let b = ands _ (ltb (r .isid) 0x1_0000_0000_0000) (a .0) in
     let c = ands (ltb (r .csg) 4) (ltb (r .nsg) 4) (b .0) in
     let isid = ltb-true (r .isid) 0x1_0000_0000_0000 (b .1) in
     (omega arith, (omega (arith, bit-lt (r .transit), ltb-true (r .csg) 4 (c .0), ltb-true (r .nsg) 4 (c .1)), omega (arith, u .0)))
-response-fits max (R.LogoutResponse r) n m e f g = (omega arith, (omega arith, omega arith))
-response-fits max (R.Reject r) n m e f g = omega arith
+response-fits max (R.LogoutResponse r) n e f g = (omega arith, (omega arith, omega arith))
+response-fits max (R.Reject r) n e f g = omega arith
 
 -- ---- requests
 

@@ -2,29 +2,8 @@
 ghost use mathlib.Core.Path.{_≡_};
 ghost use Rattle.key_table.specs.Table.{standards, own, noneSeen};
 
-pub const MAX_CONNECTIONS: usize = 0;
-
-pub const MAX_OUTSTANDING_R2T: usize = 1;
-
-pub const INITIAL_R2T: usize = 2;
-
-pub const DATA_PDU_IN_ORDER: usize = 3;
-
-pub const DATA_SEQUENCE_IN_ORDER: usize = 4;
-
-pub const IMMEDIATE_DATA: usize = 5;
-
+// The place of the one key of the table that is declared.
 pub const MAX_RECV_DATA_SEGMENT_LENGTH: usize = 6;
-
-pub const MAX_BURST_LENGTH: usize = 7;
-
-pub const FIRST_BURST_LENGTH: usize = 8;
-
-pub const DEFAULT_TIME2WAIT: usize = 9;
-
-pub const DEFAULT_TIME2RETAIN: usize = 10;
-
-pub const ERROR_RECOVERY_LEVEL: usize = 11;
 
 pub struct Parameters {
     pub values: [u32; 12],

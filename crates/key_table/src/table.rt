@@ -45,10 +45,14 @@ pub struct Row {
 
 pub const KNOWN: usize = 28;
 
-// Two places in the order of the names: the keys before AuthMethod are operational.
+// Places in the order of the names: the keys before AuthMethod are operational.
 pub const TASK_REPORTING: usize = 14;
 
 pub const AUTH_METHOD: usize = 15;
+
+pub const INITIATOR_NAME: usize = 16;
+
+pub const TARGET_NAME: usize = 17;
 
 // The table of twelve keys, in the order of their names; its standard values and ours are those of Parameters.
 const RULES: [Rule; 12] = [

@@ -14,8 +14,10 @@ ghost use mathlib.Core.Path.{_≡_};
 ghost use mathlib.Core.Bool.{true, false};
 ghost use Prim.Native.Nat.{_≤_, _<_};
 ghost use lib.ListN.{set, getD};
+ghost use Rattle.text.specs.Text.{pick, listed};
 ghost use Rattle.key_table.specs.Table.{kindAt};
-ghost use Rattle.keys.specs.Judge.{goodLength, initiatorName, targetName, sessionType, digest, taskReporting, authMethod, judgeBy, stands, leadingOnly, judgeKey, judgeNamed};
+ghost use Rattle.key_values.specs.declared.value.Judgement.the-variants as J;
+ghost use Rattle.keys.specs.Judge.{goodLength, initiatorName, targetName, sessionType, judgeBy, stands, leadingOnly, judgeKey, judgeNamed};
 ghost use Rattle.keys.specs.Contracts.{settledOf, after};
 
 // InitiatorName and TargetName have 1 to 223 bytes.
@@ -62,33 +64,14 @@ fn session_type(v: &[u8]) -> Judgement
     Judgement::Refused(0x0200)
 }
 
-fn digests(v: &[u8]) -> Judgement
-    ensures { λ r. ⌜ r ≡ digest (now (v .entry)) ⌝ }
+// A key whose value is a comma list: said where the list has the word, else the other judgement.
+fn by_list(v: &[u8], word: &[u8], said: Reply, other: Judgement) -> Judgement
+    ensures { λ r. ⌜ r ≡ pick (listed (now (word .entry)) (now (v .entry))) (J.Said said) other ⌝ }
 {
-    if lists(v, b"None") {
-        Judgement::Said(Reply::None)
+    if lists(v, word) {
+        Judgement::Said(said)
     } else {
-        Judgement::Said(Reply::Reject)
-    }
-}
-
-fn task_reporting(v: &[u8]) -> Judgement
-    ensures { λ r. ⌜ r ≡ taskReporting (now (v .entry)) ⌝ }
-{
-    if lists(v, b"RFC3720") {
-        Judgement::Said(Reply::Rfc3720)
-    } else {
-        Judgement::Said(Reply::Reject)
-    }
-}
-
-fn auth_method(v: &[u8]) -> Judgement
-    ensures { λ r. ⌜ r ≡ authMethod (now (v .entry)) ⌝ }
-{
-    if lists(v, b"None") {
-        Judgement::Said(Reply::None)
-    } else {
-        Judgement::Refused(0x0201)
+        other
     }
 }
 
@@ -101,9 +84,14 @@ fn judge_value(k: usize, ours: &[u8], v: &[u8]) -> Judgement
     match kind {
         Kind::Negotiated => settle(k, v),
         Kind::Declared => settle(k, v),
-        Kind::Digest => digests(v),
-        Kind::TaskReporting => task_reporting(v),
-        Kind::AuthMethod => auth_method(v),
+        Kind::Digest => by_list(v, b"None", Reply::None, Judgement::Said(Reply::Reject)),
+        Kind::TaskReporting => by_list(
+            v,
+            b"RFC3720",
+            Reply::Rfc3720,
+            Judgement::Said(Reply::Reject),
+        ),
+        Kind::AuthMethod => by_list(v, b"None", Reply::None, Judgement::Refused(0x0201)),
         Kind::InitiatorName => initiator_name(v),
         Kind::TargetName => target_name(ours, v),
         Kind::SessionType => session_type(v),

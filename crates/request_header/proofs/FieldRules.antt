@@ -9,11 +9,13 @@ use borrow.Author.Tests.{ltb-false, not-false, eqb-true, eqb-false, lt-leb, lt-l
 use lib.Dec.{eqb, leb, ltb}
 use lib.ListN.{length}
 use Rattle.field.specs.Field.{beAt, byte, bit, pick, none}
+use Rattle.refusal.specs.Refusal.{number}
+use Rattle.refusal.specs.declared.Refusal.{Refusal}
 use Rattle.request_header.specs.declared.Limits.{Limits}
 use Rattle.request_header.specs.declared.Pdu.{Pdu}
 use Rattle.request_header.specs.Request.{readPdu, judged, Answer, got, refused, known, opcodeOf}
 use Rattle.request_header.specs.Request.{dataLengthOf, statedLength, sharedOk, ruleOk, snackOk, pduOf, requestOf}
-use Rattle.request_header.specs.Verdicts.{fieldsOk, refusalBeforeField, BeforeField, firstRefusal}
+use Rattle.request_header.specs.Verdicts.{fieldsOk, refusalBeforeField, firstRefusal, refusalNumbered}
 
 pub and-true : (b : Bool) → (b && true) ≡ b
 and-true true = refl
@@ -70,16 +72,17 @@ one-given false false true d y e = refl
 one-given false false false true y e = refl
 one-given false false false false y e = absurd (e refl)
 
--- a number that reading answers and that is none of 2, 3 and 4 is 5
-last-given : (a b c d ok : Bool) (p : Pdu) (n : ℕ)
+-- a number that reading answers is that of its refusal
+given-number : (a b c d ok : Bool) (p : Pdu) (n : ℕ)
     → pick a (refused 4) (pick b (refused 2) (pick c (refused 5) (pick d (refused 4) (pick ok (got p) (refused 3))))) ≡ refused n
-    → (n ≡ 2 → ⊥) → (n ≡ 3 → ⊥) → (n ≡ 4 → ⊥) → n ≡ 5
-last-given true b c d ok p n e x y z = absurd (z cc)
-last-given false true c d ok p n e x y z = absurd (x cc)
-last-given false false true d ok p n e x y z = cc
-last-given false false false true ok p n e x y z = absurd (z cc)
-last-given false false false false true p n e x y z = let q : _≡_ {A = ℕ} 0 1 = cc in absurd (omega arith)
-last-given false false false false false p n e x y z = absurd (y cc)
+    → n ≡ number (refusalNumbered n)
+unfolding refusalNumbered
+given-number true b c d ok p n e = let q : n ≡ 4 = cc in rw q
+given-number false true c d ok p n e = let q : n ≡ 2 = cc in rw q
+given-number false false true d ok p n e = let q : n ≡ 5 = cc in rw q
+given-number false false false true ok p n e = let q : n ≡ 4 = cc in rw q
+given-number false false false false true p n e = let q : _≡_ {A = ℕ} 0 1 = cc in absurd (omega arith)
+given-number false false false false false p n e = let q : n ≡ 3 = cc in rw q
 
 -- the number of the first refusal, f where one comes before FIELD
 numbered : ℕ → Bool → ℕ
@@ -108,15 +111,20 @@ module _ (m : Limits) (s : List ℕ) where
       one-given (ltb (length s) 48) (not (known (opcodeOf s))) (ltb (m .«data_segment») (dataLengthOf s)) (not (eqb (length s) (statedLength s)))
       _ e
 
-  -- all that the number tells
-  pub before-field : (r : ℕ) → r ≡ refusalBeforeField m s → BeforeField m s r
-  before-field r e = record {
-    number = e;
-    answer = λ f. rw e (not-passed (λ z. f (e ∙ z)));
-    long = λ f. ltb-false _ _ (passed (sym e ∙ f) .1);
-    opcode = λ f. not-false _ (passed (sym e ∙ f) .2);
-    rules = λ f. passed (sym e ∙ f) .0;
-  }
+  -- what a caller knows by the number of the refusal before FIELD: another than 0 is reading's answer
+  pub refused-before : {n : ℕ} → n ≡ refusalBeforeField m s → (n ≡ 0 → ⊥) → readPdu m s ≡ refused n
+  refused-before e f = rw e (not-passed (λ z. f (e ∙ z)))
+
+  -- past 0 the input has a header whose opcode is read here, and the field rules of that opcode decide
+  pub long-past : {n : ℕ} → n ≡ refusalBeforeField m s → n ≡ 0 → 48 ≤ length s
+  long-past e z = ltb-false _ _ (passed (sym e ∙ z) .1)
+
+  pub known-past : {n : ℕ} → n ≡ refusalBeforeField m s → n ≡ 0 → known (opcodeOf s) ≡ true
+  known-past e z = not-false _ (passed (sym e ∙ z) .2)
+
+  pub rules-past : {n : ℕ} → n ≡ refusalBeforeField m s → n ≡ 0
+      → readPdu m s ≡ pick (fieldsOk m (opcodeOf s) s) (got (pduOf (opcodeOf s) s)) (refused 3)
+  rules-past e z = passed (sym e ∙ z) .0
 
   -- the first refusal is one before FIELD, or by the field rules
   pub first-before-field : {n : ℕ} → n ≡ refusalBeforeField m s → (n ≡ 0 → ⊥) → n ≡ firstRefusal m s
@@ -139,11 +147,14 @@ module _ (m : Limits) (s : List ℕ) where
   pub read-refused : {n : ℕ} → n ≡ firstRefusal m s → (n ≡ 0 → ⊥) → readPdu m s ≡ refused n
   read-refused e f = rw (← e, ne-eqb _ _ f) at first-read
 
-  pub refused-last : (n : ℕ) → readPdu m s ≡ refused n → (n ≡ 2 → ⊥) → (n ≡ 3 → ⊥) → (n ≡ 4 → ⊥) → n ≡ 5
+  -- the refusal of a number that reading answers has that number
+  pub refused-number : {n : ℕ} → readPdu m s ≡ refused n → {r : Refusal} → r ≡ refusalNumbered n → number r ≡ n
   unfolding readPdu judged
-  refused-last n e =
-      last-given (ltb (length s) 48) (not (known (opcodeOf s))) (ltb (m .«data_segment») (dataLengthOf s)) (not (eqb (length s) (statedLength s)))
-      (sharedOk (opcodeOf s) s && ruleOk m (pduOf (opcodeOf s) s) (pduOf (opcodeOf s) s .request)) (pduOf (opcodeOf s) s) n e
+  refused-number {n} e f =
+      ap number f
+      ∙ sym (given-number (ltb (length s) 48) (not (known (opcodeOf s))) (ltb (m .«data_segment») (dataLengthOf s))
+      (not (eqb (length s) (statedLength s))) (sharedOk (opcodeOf s) s && ruleOk m (pduOf (opcodeOf s) s) (pduOf (opcodeOf s) s .request))
+      (pduOf (opcodeOf s) s) n e)
 
 -- an opcode that is read, and is none of the five others, is that of SNACK
 pub known-last : (op : ℕ) → known op ≡ true → (op ≡ 0x00 → ⊥) → (op ≡ 0x01 → ⊥) → (op ≡ 0x02 → ⊥) → (op ≡ 0x03 → ⊥) → (op ≡ 0x06 → ⊥) → op ≡ 0x10

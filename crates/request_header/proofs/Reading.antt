@@ -63,6 +63,7 @@ got-data m s p e =
     let g = got-all m s p e in
     rw (g .fields) (omega arith)
 
+-- and is as long as its header states; cited by no other law yet, kept for reading back what was written (request L7)
 pub got-data-length : (m : Limits) (s : List ℕ) (p : Pdu) → readPdu m s ≡ got p → length (dataOf s p) ≡ p .«data_segment_length»
 unfolding dataOf
 got-data-length m s p e =

@@ -12,13 +12,10 @@ use request_rules::snack_ok;
 use request_rules::task_management_ok;
 ghost use mathlib.Core.Path.{_≡_};
 ghost use mathlib.Core.Bool.{true};
-ghost use mathlib.Core.List.{List};
-ghost use Prim.Native.Nat.{ℕ, _≤_};
+ghost use Prim.Native.Nat.{_≤_};
 ghost use lib.ListN.{length};
-ghost use Rattle.refusal.specs.Refusal.{number as numberOf};
-ghost use Rattle.request_header.specs.declared.Limits.{Limits};
-ghost use Rattle.request_header.specs.Request.{known, opcodeOf, readPdu, refused};
-ghost use Rattle.request_header.specs.Verdicts.{fieldsOk, BeforeField, firstRefusal};
+ghost use Rattle.request_header.specs.Request.{known, opcodeOf};
+ghost use Rattle.request_header.specs.Verdicts.{fieldsOk, refusalBeforeField, firstRefusal, refusalNumbered};
 
 // Whether the opcode names a request that is read here.
 fn is_known(op: u8) -> bool
@@ -29,7 +26,7 @@ fn is_known(op: u8) -> bool
 
 // The number of the refusal before FIELD: LENGTH under 48 bytes, OPCODE, TOOLONG, LENGTH; 0 for none. Every reader begins with it.
 pub fn refusal_before_field(input: &[u8], limits: Limits) -> u8
-    ensures { λ r. ⌜ BeforeField limits (now (input .entry)) r ⌝ }
+    ensures { λ r. ⌜ r ≡ refusalBeforeField limits (now (input .entry)) ⌝ }
 {
     if input.len() < HEADER_BYTES {
         return 4;
@@ -74,9 +71,9 @@ pub fn first_refusal(input: &[u8], limits: Limits) -> u8
     if fields_ok(input, limits) { 0 } else { 3 }
 }
 
-// The refusal whose number reading answered.
+// The refusal of a number that reading answers; TOOLONG of any other.
 pub fn refusal_of(number: u8) -> Refusal
-    ensures { λ r. ⌜ ((m : Limits) (s : List ℕ) → readPdu m s ≡ refused number → number ≡ numberOf r) ⌝ }
+    ensures { λ r. ⌜ r ≡ refusalNumbered number ⌝ }
 {
     match number {
         2 => Refusal::Opcode,

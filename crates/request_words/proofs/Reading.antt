@@ -10,7 +10,8 @@ use native.Mathlib.Omega.{arith}
 use Rattle.field.specs.Field.{pick, beAt, byte}
 use Rattle.request_header.specs.declared.Limits.{Limits}
 use Rattle.request_header.specs.Request.{readPdu, pduOf, requestOf, opcodeOf}
-use Rattle.request_header.specs.Verdicts.{fieldsOk, BeforeField}
+use Rattle.request_header.specs.Verdicts.{fieldsOk, refusalBeforeField}
+use Rattle.request_header.proofs.FieldRules.{refused-before, rules-past}
 use Rattle.request_words.specs.RequestWords.{ReadWords, readWords, kindWords, commonWords, ownWords}
 
 -- a bit as a word is the number that it is told by
@@ -41,12 +42,12 @@ module _ (m : Limits) (op : ℕ) (s : List ℕ) (c o : List ℕ) where
   unfolding kindWords readWords pduOf
   kind-read r e f cs os x y = rw (← e, f, x, y)
 
-module _ (m : Limits) (s : List ℕ) (c o : List ℕ) {n : ℕ} (f : BeforeField m s n) where
+module _ (m : Limits) (s : List ℕ) (c o : List ℕ) {n : ℕ} (f : n ≡ refusalBeforeField m s) where
   -- past the refusals before FIELD, the kind decides
   pub kind-decides : {op : ℕ} {x : ReadWords} → n ≡ 0 → opcodeOf s ≡ op → x ≡ kindWords m op s c o → x ≡ readWords (readPdu m s) c o
   unfolding kindWords
-  kind-decides e g h = rw (f .rules e, g) h
+  kind-decides e g h = rw (rules-past m s f e, g) h
 
   pub refused-words : (n ≡ 0 → ⊥) → record { answer = n; common = c; own = o } ≡ readWords (readPdu m s) c o
   unfolding readWords
-  refused-words e = rw (f .answer e)
+  refused-words e = rw (refused-before m s f e)

@@ -148,9 +148,13 @@ fieldsFit (R.LoginResponse r) =
 fieldsFit (R.LogoutResponse r) = true
 fieldsFit (R.Reject r) = true
 
+-- "A data length above 8,192 is TOOLONG": above the limit, and whatever the limit, of 2^24 or more, for which its three bytes have no room
+abbrev pub tooLong : ℕ → ℕ → Bool
+tooLong max n = ltb 0xffffff n || ltb max n
+
 -- a response by itself: "5, then 3"; 0 where it can be written
 unfoldable pub refusalIn : ℕ → Response → ℕ
-refusalIn max r = pick (ltb max (dataLengthIn r)) 5 (pick (fieldsFit r) 0 3)
+refusalIn max r = pick (tooLong max (dataLengthIn r)) 5 (pick (fieldsFit r) 0 3)
 
 -- what a judgement says: 0, or the refusal's number
 abbrev pub judgementNumber : Judgement → ℕ

@@ -3,7 +3,7 @@ use crate::Judgement;
 use crate::Response;
 use refusal::Refusal;
 ghost use mathlib.Core.Path.{_≡_};
-ghost use Rattle.response_header.specs.Response.{dataLengthIn, fieldsFit, refusalIn, judgementNumber};
+ghost use Rattle.response_header.specs.Response.{dataLengthIn, fieldsFit, tooLong, refusalIn, judgementNumber};
 
 // The data length that a response states.
 fn data_length_in(r: Response) -> u32
@@ -35,11 +35,18 @@ fn fields_fit(r: Response) -> bool
     }
 }
 
-// Whether a response can be written: TOOLONG where its data length is above max_data, then FIELD.
+// Whether a data length is TOOLONG: above max_data, or of 2^24 or more, for which a header has no room.
+pub fn too_long(data_length: u64, max_data: u32) -> bool
+    ensures { λ r. ⌜ r ≡ tooLong «max_data» «data_length» ⌝ }
+{
+    (0xff_ffff < data_length) | ((max_data as u64) < data_length)
+}
+
+// Whether a response can be written: TOOLONG by its data length, then FIELD.
 pub fn judge(r: Response, max_data: u32) -> Judgement
     ensures { λ j. ⌜ judgementNumber j ≡ refusalIn «max_data» r ⌝ }
 {
-    if max_data < data_length_in(r) {
+    if too_long(data_length_in(r) as u64, max_data) {
         return Judgement::Refused(Refusal::TooLong);
     }
     if fields_fit(r) {

@@ -13,7 +13,6 @@ ghost use mathlib.Core.Path.{_≡_};
 ghost use Prim.Native.Nat.{_+_, _≤_};
 ghost use lib.ListN.{length};
 ghost use lib.Seq.{paste};
-ghost use Rattle.response_header.specs.Response.{headerBytes};
 ghost use Rattle.response_fields.specs.WholeNumbers.{ownBytes};
 ghost use Rattle.response_writer.specs.Writing.{Outcome, answered, writing};
 
@@ -35,16 +34,6 @@ pub fn place(out: &mut [u8], at: usize, o: OwnFields, n: Numbers)
     put(out, at + 24, numbers);
     put(out, at + 32, last);
     put(out, at + 40, o.at_40);
-}
-
-// The header of a response with these numbers.
-pub fn header(r: Response, n: Numbers) -> [u8; 48]
-    ensures { λ h. ⌜ h ≡ headerBytes r n ⌝ }
-{
-    let mut h = [0u8; 48];
-    let o = own_fields(r);
-    place(&mut h, 0, o, n);
-    h
 }
 
 // Writes the header into the first 48 bytes of out, or refuses: BUFFER, TOOLONG, FIELD.

@@ -2,14 +2,14 @@ use mathlib.Core.Path.{sym, ap, _∙_}
 use borrow.Author.Needs.{needs}
 use Rattle.request_header.specs.Request.{refused}
 use Rattle.request_header.proofs.Reading.{got-long}
-use Rattle.request_header.proofs.FieldRules.{read-good, read-refused}
+use Rattle.request_header.proofs.FieldRules.{read-good, read-refused, refused-number}
 use Rattle.request_pdu.proofs.read.Statement.{statement}
 use Rattle.request_pdu.proofs.read.Tie as tie
 
 returns : tie.Need-returns
 returns c =
     let e = read-refused _ _ (c .before .before .first-refusal .ensures) (c .before .if1 .taken) in
-    ap refused (sym (c .refusal-of .ensures _ _ e)) ∙ sym e
+    ap refused (refused-number _ _ e (c .refusal-of .ensures)) ∙ sym e
 
 shared-slice-read-op : tie.Need-shared-slice-read-op
 shared-slice-read-op c =

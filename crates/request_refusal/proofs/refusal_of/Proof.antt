@@ -1,21 +1,26 @@
--- `request_refusal::refusal_of` meets its contract: each arm is its number's refusal, and the last number is 5.
-use Rattle.request_header.proofs.FieldRules.{refused-last}
+-- `request_refusal::refusal_of` meets its contract: each arm is its number's refusal, and the last is that of every number left.
+use borrow.Author.Tests.{ne-eqb}
+use Rattle.request_header.specs.Verdicts.{refusalNumbered}
 use Rattle.request_refusal.proofs.refusal_of.Statement.{statement}
 use Rattle.request_refusal.proofs.refusal_of.Tie as tie
 
 returns : tie.Need-returns
-returns c m s e = c .match .keys1
+unfolding refusalNumbered
+returns c = rw (c .match .keys1)
 
 returns-2 : tie.Need-returns-2
-returns-2 c m s e = c .match .keys2
+unfolding refusalNumbered
+returns-2 c = rw (c .match .keys2)
 
 returns-3 : tie.Need-returns-3
-returns-3 c m s e = c .match .keys3
+unfolding refusalNumbered
+returns-3 c = rw (c .match .keys3)
 
 returns-4 : tie.Need-returns-4
-returns-4 c m s e =
+unfolding refusalNumbered
+returns-4 c =
     let n = c .match .rest in
-    refused-last m s _ e (n .0 .0 .1) (n .0 .1) (n .1)
+    rw (ne-eqb _ _ (n .0 .0 .1), ne-eqb _ _ (n .0 .1), ne-eqb _ _ (n .1))
 
 pub refusal-of-spec : {M : Type 1} → statement M
 refusal-of-spec =

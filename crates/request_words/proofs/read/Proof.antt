@@ -1,6 +1,6 @@
 -- `request_words::read` meets its contract: past the refusals before FIELD each arm is its kind's, and the last is SNACK, the one opcode left.
 use borrow.Author.Needs.{needs}
-use Rattle.request_header.proofs.FieldRules.{known-last}
+use Rattle.request_header.proofs.FieldRules.{known-last, known-past, long-past}
 use Rattle.request_words.proofs.Reading.{kind-decides, refused-words}
 use Rattle.request_words.proofs.read.Statement.{statement}
 use Rattle.request_words.proofs.read.Tie as tie
@@ -10,7 +10,7 @@ returns c = refused-words _ _ _ _ (c .before .refusal-before-field .ensures) (c 
 
 shared-slice-read-op : tie.Need-shared-slice-read-op
 shared-slice-read-op c =
-    let l = c .before .before .refusal-before-field .ensures .long (c .before .if1 .left) in
+    let l = long-past _ _ (c .before .before .refusal-before-field .ensures) (c .before .if1 .left) in
     search (needs, l)
 
 returns-2 : tie.Need-returns-2
@@ -49,15 +49,15 @@ returns-7 c =
     let f = m .before .before .before .refusal-before-field .ensures in
     let z = m .before .before .if1 .left in
     let n = m .match .rest in
-    kind-decides _ _ _ _ f z (known-last _ (f .opcode z) (n .0 .0 .0 .0 .1) (n .0 .0 .0 .1) (n .0 .0 .1) (n .0 .1) (n .1)) (c .snack .ensures _)
+    kind-decides _ _ _ _ f z (known-last _ (known-past _ _ f z) (n .0 .0 .0 .0 .1) (n .0 .0 .0 .1) (n .0 .0 .1) (n .0 .1) (n .1)) (c .snack .ensures _)
 
 pub read-spec : {M : Type 1} → statement M
 read-spec =
     tie.close (tie.spec (λ c κs. search needs) (λ c. search needs) returns shared-slice-read-op
-    (λ c κs. c .before .before .before .before .before .refusal-before-field .ensures .long (c .before .before .before .before .if1 .left))
-    (λ c κs. c .before .before .before .before .before .refusal-before-field .ensures .long (c .before .before .before .before .if1 .left))
-    (λ c κs. c .before .before .before .before .before .refusal-before-field .ensures .long (c .before .before .before .before .if1 .left))
-    (λ c κs. c .before .before .before .before .before .refusal-before-field .ensures .long (c .before .before .before .before .if1 .left))
-    (λ c κs. c .before .before .before .before .before .refusal-before-field .ensures .long (c .before .before .before .before .if1 .left))
-    (λ c κs. c .before .before .before .before .before .refusal-before-field .ensures .long (c .before .before .before .before .if1 .left))
+    (λ c κs. long-past _ _ (c .before .before .before .before .before .refusal-before-field .ensures) (c .before .before .before .before .if1 .left))
+    (λ c κs. long-past _ _ (c .before .before .before .before .before .refusal-before-field .ensures) (c .before .before .before .before .if1 .left))
+    (λ c κs. long-past _ _ (c .before .before .before .before .before .refusal-before-field .ensures) (c .before .before .before .before .if1 .left))
+    (λ c κs. long-past _ _ (c .before .before .before .before .before .refusal-before-field .ensures) (c .before .before .before .before .if1 .left))
+    (λ c κs. long-past _ _ (c .before .before .before .before .before .refusal-before-field .ensures) (c .before .before .before .before .if1 .left))
+    (λ c κs. long-past _ _ (c .before .before .before .before .before .refusal-before-field .ensures) (c .before .before .before .before .if1 .left))
     returns-2 returns-3 returns-4 returns-5 returns-6 returns-7)

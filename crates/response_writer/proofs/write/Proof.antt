@@ -1,7 +1,11 @@
 use mathlib.Core.Path.{_≡_, refl, sym, ap, _∙_}
+use mathlib.Core.List.{List, _++_}
+use Prim.Native.Nat.{ℕ}
 use borrow.Author.Tests.{lt-ltb, le-ltb}
+use lib.ListN.{drop}
 use Rattle.refusal.proofs.Laws.{number-positive}
 use Rattle.response_writer.specs.Writing.{writing}
+use Rattle.response_fields.specs.WholeNumbers.{ownBytes}
 use Rattle.response_fields.proofs.Laid.{length-own, front}
 use borrow.Author.Needs.{needs}
 use Rattle.response_writer.proofs.write.Statement.{statement}
@@ -25,15 +29,14 @@ returns-3 : tie.Need-returns-3
 unfolding writing
 returns-3 c =
     let o = c .before .before .before .before .own-fields in
-    let a = c .before .before .before .before .before .before .before .before .before .before .args in
-    rw (
-      le-ltb _ _ (c .before .before .before .before .before .before .before .before .if1 .left),
-      ← (c .before .before .before .before .before .before .before .judge .ensures),
-      c .before .before .before .before .before .enum-told .given .1,
-      o .ensures (a .n),
-      c .before .before .place .ensures,
-      front (a .out .now) _ (length-own (o .result) (a .n)),
-    )
+    let j = c .before .before .before .before .before in
+    let a = j .before .before .before .before .before .args in
+    let rest = drop 48 (a .out .now) in
+    rw (le-ltb _ _ (j .before .before .before .if1 .left), ← (j .before .before .judge .ensures), j .enum-told .given .1)
+    (ap (λ (b : List ℕ). record { answer = 0; bytes = b })
+    (c .before .before .place .ensures
+    ∙ front (a .out .now) (ownBytes (o .result) (a .n)) (length-own (o .result) (a .n))
+    ∙ ap (λ (h : List ℕ). h ++ rest) (sym (o .ensures (a .n)))))
 
 pub write-spec : {M : Type 1} → statement M
 write-spec =

@@ -1,58 +1,34 @@
 -- `store::place`: what was passed is pasted; the measure is what is left of the 48 bytes.
-use Prim.Native.Nat.{_≤_, _-_, _<_, _+_}
+use Prim.Native.Nat.{_-_}
 use borrow.Author.Needs.{needs}
-use native.Mathlib.Numerals.{add-one}
-use mathlib.Core.Path.{_≡_, _∙_}
 use native.Mathlib.Omega.{arith}
-use lib.ListN.{length, length-set, getD}
-use lib.Seq.{paste, paste-zero, paste-suc}
+use Rattle.field.proofs.Laws.{Pasting, paste-none, paste-next, paste-last}
 use Rattle.store.proofs.place.Statement.{statement}
 use Rattle.store.proofs.place.Tie as tie
 
 abbrev Inv-loop : tie.InvT-loop
-Inv-loop headers₀ at bytes i₀ headers i = (i ≤ 48) × (headers ≡ paste headers₀ at bytes i) × (length headers ≡ length headers₀)
+Inv-loop headers₀ at bytes i₀ headers i = Pasting 48 headers₀ at bytes headers i
 
 abbrev μ-loop : tie.MeasureT-loop
 μ-loop headers₀ at bytes i₀ headers i = 48 - i
 
 loop-holds : tie.Need-loop-holds Inv-loop μ-loop
-loop-holds c = (omega arith, paste-zero (c .args .headers .now) (c .args .at) (c .args .t3), search needs)
-
-array-read-headers : tie.Need-array-read-headers Inv-loop μ-loop
-array-read-headers c = omega arith
-
-add-headers : tie.Need-add-headers Inv-loop μ-loop
-add-headers c = omega arith
-
-slice-write-headers : tie.Need-slice-write-headers Inv-loop μ-loop
-slice-write-headers c = omega arith
-
-add-i : tie.Need-add-i Inv-loop μ-loop
-add-i c = omega arith
-
-loop-less : tie.Need-loop-less Inv-loop μ-loop
-loop-less c = omega arith
+loop-holds c = paste-none 48 (c .args .headers .now) (c .args .at) (c .args .t3)
 
 loop-again : tie.Need-loop-again Inv-loop μ-loop
 loop-again c =
     let a = c .before .before .args in
     let l = c .before .loop in
-    let k : length (a .t3) ≡ 48 = search needs in
-    let hd : a .at + l .i < length (a .headers .now) = omega arith in
-    let hs : l .i < length (a .t3) = omega arith in (
-      omega arith,
-      rw (l .inv .1, add-one) (paste-suc (a .headers .now) (a .at) (a .t3) (l .i) 0 hd hs),
-      length-set (l .headers) (a .at + l .i) (getD (a .t3) (l .i) 0) ∙ l .inv .2,
-    )
-
-same-length : tie.Need-same-length Inv-loop μ-loop
-same-length c = search needs
+    paste-next 48 (a .headers .now) (a .at) (a .t3) (c .before .before .pre) (search needs) (l .headers) (l .i) (omega arith) (l .inv)
 
 returns : tie.Need-returns Inv-loop μ-loop
 returns c =
-    let e : c .before .loop .i ≡ 48 = omega arith in
-    rw e at (c .before .loop .inv .1)
+    let a = c .before .before .args in
+    let l = c .before .loop in
+    paste-last 48 (a .headers .now) (a .at) (a .t3) (l .headers) (l .i) (omega arith) (l .inv)
 
 pub place-spec : {M : Type 1} → statement M
 place-spec =
-    tie.close (tie.spec Inv-loop μ-loop loop-holds array-read-headers add-headers slice-write-headers add-i loop-less loop-again same-length returns)
+    tie.close (tie.spec
+    Inv-loop μ-loop loop-holds (λ c. omega arith) (λ c. omega arith) (λ c. omega arith) (λ c. omega arith) (λ c. omega arith)
+    loop-again (λ c. search needs) returns)

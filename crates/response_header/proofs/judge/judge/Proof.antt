@@ -7,29 +7,21 @@ use Rattle.response_header.proofs.judge.judge.Tie as tie
 
 returns : tie.Need-returns
 unfolding refusalIn
-returns c = rw (← (c .before .data-length-in .ensures), lt-ltb _ _ (c .if1 .taken))
+returns c = rw (← (c .before .before .data-length-in .ensures), ← (c .before .too-long .ensures), c .if1 .taken)
 
 returns-2 : tie.Need-returns-2
 unfolding refusalIn
 returns-2 c =
-    rw (
-      ← (c .before .before .before .data-length-in .ensures),
-      le-ltb _ _ (c .before .before .if1 .left),
-      ← (c .before .fields-fit .ensures),
-      c .if2 .taken,
-    )
+    let d = c .before .before in
+    rw (← (d .before .before .data-length-in .ensures), ← (d .before .too-long .ensures), d .if1 .left, ← (c .before .fields-fit .ensures), c .if2 .taken)
 
 returns-3 : tie.Need-returns-3
 unfolding refusalIn
 returns-3 c =
-    rw (
-      ← (c .before .before .before .data-length-in .ensures),
-      le-ltb _ _ (c .before .before .if1 .left),
-      ← (c .before .fields-fit .ensures),
-      c .if2 .left,
-    )
+    let d = c .before .before in
+    rw (← (d .before .before .data-length-in .ensures), ← (d .before .too-long .ensures), d .if1 .left, ← (c .before .fields-fit .ensures), c .if2 .left)
 
 pub judge-spec : {M : Type 1} → statement M
 judge-spec =
     tie.close (tie.spec
-    (λ c κs. search needs) returns (λ c κs. search needs) returns-2 returns-3)
+    (λ c κs. search needs) (λ c. search needs) (λ c κs. search needs) returns (λ c κs. search needs) returns-2 returns-3)
