@@ -17,14 +17,16 @@ use Rattle.refusal.specs.declared.Refusal.{Refusal}
 use Rattle.response_header.specs.declared.Response.{Response}
 use Rattle.field.proofs.Laws.{length-bytes, sets-append}
 use Rattle.refusal.proofs.Laws.{number-positive}
-use lib.Seq.{paste, sets, getD-set-same, getD-set-other, length-paste, set-append-left, length-sets, take-all, take-at}
+use lib.Seq.{paste, sets, getD-set-same, getD-set-other, length-paste, set-append-left, length-sets, take-all, take-at, drop-at}
 use Rattle.store.specs.Slot.{inSlot}
 use Rattle.store.proofs.Slots.{slot-same, slot-other}
 use Rattle.ledger.specs.declared.Ledger.{Ledger}
 use Rattle.ledger.specs.declared.Renewal.{Renewal}
 use Rattle.ledger.specs.Book.{Status, LedgerBook, oldest, place, isStatus, isFull, refused, notStored, stored, sending, headerFor, sendBytes, sent, released, notHeld, run, runAt, runOf, renewed, Found, missing, found, lookup, statusOf}
 use Rattle.ledger.specs.declared.Sent.the-variants as S
-use Rattle.ledger.specs.Agree.{Statuses, statusesIn, SlotHas, Agrees, Puts, Stored, Sends, ticket, nothing, Showing, showing}
+use Rattle.ledger.specs.Answer.{resent, running}
+use Rattle.ledger.specs.Answer as Answers
+use Rattle.ledger.specs.Agree.{Statuses, statusesIn, SlotHas, Agrees, Puts, Stored, Sends, Showing, showing}
 
 pub oldest-is : (b : LedgerBook) (o l h : ℕ) → l ≡ b .next → h ≡ length (b .held) → length (b .held) ≤ 32 → b .next < 2 ^ 32
     → o < 2 ^ 32 → (o + h) % 2 ^ 32 ≡ l → o ≡ oldest b
@@ -186,19 +188,19 @@ release-agrees c l r ss b e g le e2 e3 = record {
 -- ---- runs
 
 module _ (b : LedgerBook) (begin len k h : ℕ) (ek : k ≡ place b begin) (eh : h ≡ length (b .held)) (n : (eqb begin 0 && eqb len 0) ≡ false) where
-  pub run-far : h ≤ k → notHeld ≡ runOf b begin len
+  pub run-far : h ≤ k → running notHeld ≡ running (runOf b begin len)
   unfolding runOf runAt
   run-far l = rw (n, ← ek, ← eh, le-ltb k h l)
 
-  pub run-rest : k < h → len ≡ 0 → run begin (h - k) ≡ runOf b begin len
+  pub run-rest : k < h → len ≡ 0 → running (run begin (h - k)) ≡ running (runOf b begin len)
   unfolding runOf runAt
   run-rest l z = rw (n, ← ek, ← eh, lt-ltb k h l, eq-eqb len 0 z)
 
-  pub run-part : k < h → (len ≡ 0 → ⊥) → len ≤ h - k → run begin len ≡ runOf b begin len
+  pub run-part : k < h → (len ≡ 0 → ⊥) → len ≤ h - k → running (run begin len) ≡ running (runOf b begin len)
   unfolding runOf runAt
   run-part l z m = rw (n, ← ek, ← eh, lt-ltb k h l, ne-eqb len 0 z, le-leb len (h - k) m)
 
-  pub run-long : k < h → (len ≡ 0 → ⊥) → h - k < len → notHeld ≡ runOf b begin len
+  pub run-long : k < h → (len ≡ 0 → ⊥) → h - k < len → running notHeld ≡ running (runOf b begin len)
   unfolding runOf runAt
   run-long l z m = rw (n, ← ek, ← eh, lt-ltb k h l, ne-eqb len 0 z, lt-leb len (h - k) m)
 
@@ -210,7 +212,7 @@ sets-front a x i (v ∷ vs) l =
     ap (λ (r : List ℕ). sets r (suc i) vs) (set-append-left a x i v (omega arith))
     ∙ sets-front (set a i v) x (suc i) vs (rw length-set (omega arith))
 
-renew : (a x : List ℕ) (n : Renewal) → length a ≡ 48
+pub renew : (a x : List ℕ) (n : Renewal) → length a ≡ 48
     → sets (sets (a ++ x) 28 (bytesOf 4 (n .«exp_cmd_sn»))) 32 (bytesOf 4 (n .«max_cmd_sn»)) ≡ renewed a n ++ x
 unfolding renewed
 renew a x n l =
@@ -225,7 +227,7 @@ renew-both l e m = sym (sets-append l 28 (bytesOf 4 e) (bytesOf 4 m)) ∙ ap (λ
 
 pub resend-missing : (c : ℕ) (l : Ledger) (ss : Statuses) (out : List ℕ) (b : LedgerBook) (n k : ℕ) (x : Renewal) → Agrees c l ss b → k ≡ place b n
     → l .held ≤ k
-    → _≡_ {A = Showing} (record { answer = nothing; bytes = out }) (showing (statusOf b n) x out)
+    → _≡_ {A = Showing} (record { answer = Answers.refused 12; bytes = out }) (showing (statusOf b n) x out)
 unfolding statusOf showing
 resend-missing c l ss out b n k x g ek h = rw (lookup-past (b .held) (place b n) (omega (arith, g .held)))
 
@@ -244,18 +246,30 @@ oldest-lt b = omega arith
 
 pub resend-found : (c : ℕ) (l : Ledger) (ss : Statuses) (out : List ℕ) (b : LedgerBook) (n k : ℕ) (x : Renewal) → Agrees c l ss b → k ≡ place b n
     → n < 2 ^ 32 → k < l .held
-    → length (inSlot (ss .headers) (c * 32 + n % 32)) ≡ 48
     → _≡_ {A = Showing} (record {
-      answer = ticket (getD (ss .tickets) (c * 32 + n % 32) 0);
-      bytes = sets (sets (inSlot (ss .headers) (c * 32 + n % 32) ++ drop 48 out) 28 (bytesOf 4 (x .«exp_cmd_sn»))) 32 (bytesOf 4 (x .«max_cmd_sn»));
+      answer = resent (getD (ss .tickets) (c * 32 + n % 32) 0);
+      bytes = renewed (inSlot (ss .headers) (c * 32 + n % 32)) x ++ drop 48 out;
     })
     (showing (statusOf b n) x out)
 unfolding statusOf showing place SlotHas
-resend-found c l ss out b n k x g ek ln h sz =
+resend-found c l ss out b n k x g ek ln h =
     lookup-in (b .held) k _ (omega (arith, g .held)) (λ s q.
     let at : c * 32 + (oldest b + k) % 32 ≡ c * 32 + n % 32 = ap (λ (x : ℕ). c * 32 + x) (here (oldest b) n k (oldest-lt b) ln ek) in
     let kept : SlotHas ss (c * 32 + n % 32) (found s) = rw (q, at) at (g .kept k) in
-    rw (← ek, q, renew (inSlot (ss .headers) (c * 32 + n % 32)) (drop 48 out) x sz, kept .0, kept .1))
+    rw (← ek, q, kept .0, kept .1))
+
+pub length-renewed : (h : List ℕ) (x : Renewal) → length (renewed h x) ≡ length h
+unfolding renewed
+length-renewed h x = length-sets (sets h 28 (bytesOf 4 (x .«exp_cmd_sn»))) 32 (bytesOf 4 (x .«max_cmd_sn»)) ∙ length-sets h 28 (bytesOf 4 (x .«exp_cmd_sn»))
+
+-- ---- an output with another header
+
+module _ (h out : List ℕ) (z : length h ≡ 48) where
+  pub headed-size : 48 ≤ length out → length (h ++ drop 48 out) ≡ length out
+  headed-size l = length-append h (drop 48 out) ∙ omega (arith, length-drop 48 out)
+
+  pub headed-rest : drop 48 (h ++ drop 48 out) ≡ drop 48 out
+  headed-rest = drop-at h (drop 48 out) 48 z
 
 -- ---- send
 
@@ -295,9 +309,12 @@ module _ (c : ℕ) (l : Ledger) (ticket : ℕ) (r : Response) (longest e m : ℕ
     headers-size = λ s. s;
     tickets-size = λ s. s;
     stays = (refl, refl);
+    out-size = refl;
+    out-rest = refl;
   }
 
-  module _ (h : List ℕ) (is : h ≡ headerBytes r (record { «stat_sn» = l .next; «exp_cmd_sn» = e; «max_cmd_sn» = m })) where
+  module _ (h : List ℕ) (is : h ≡ headerBytes r (record { «stat_sn» = l .next; «exp_cmd_sn» = e; «max_cmd_sn» = m })) (z : length h ≡ 48)
+      (long : 48 ≤ length out) where
     right : (b : LedgerBook) → Agrees c l ss b → h ≡ headerFor b r e m
     right b g = is ∙ same-header b r (l .next) e m (g .next)
 
@@ -314,13 +331,15 @@ module _ (c : ℕ) (l : Ledger) (ticket : ℕ) (r : Response) (longest e m : ℕ
       headers-size = λ s. s;
       tickets-size = λ s. s;
       stays = (s, refl);
+      out-size = headed-size h out z long;
+      out-rest = headed-rest h out z;
     }
 
-    pub sends-stored : (l' : Ledger) (ss' : Statuses) → isStatus r ≡ true → length h ≡ 48 → Stored c l ticket h ss l' ss'
+    pub sends-stored : (l' : Ledger) (ss' : Statuses) → isStatus r ≡ true → Stored c l ticket h ss l' ss'
         → ((b : LedgerBook) → Agrees c l ss b → sending b longest r ≡ stored (b .next))
         → Sends c l ticket r longest e m out ss (S.Stored (l .next) l') (h ++ drop 48 out) ss'
     unfolding sendBytes
-    sends-stored l' ss' s z k q = record {
+    sends-stored l' ss' s k q = record {
       meets = λ b g. record {
         answer = ap stored (g .next) ∙ sym (q b g);
         bytes = rw (q b g) (ap (λ (x : List ℕ). x ++ drop 48 out) (right b g));
@@ -330,4 +349,6 @@ module _ (c : ℕ) (l : Ledger) (ticket : ℕ) (r : Response) (longest e m : ℕ
       headers-size = k .headers-size;
       tickets-size = k .tickets-size;
       stays = (s, subst (λ (x : List ℕ). Puts c (l .next) ticket x ss ss') (sym (take-at h (drop 48 out) 48 z)) (k .puts));
+      out-size = headed-size h out z long;
+      out-rest = headed-rest h out z;
     }

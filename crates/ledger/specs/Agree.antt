@@ -9,16 +9,15 @@ use lib.Seq.{paste}
 use Rattle.refusal.specs.Refusal.{number}
 use Rattle.response_header.specs.declared.Response.{Response}
 use Rattle.store.specs.Slot.{headerSize, inSlot}
-use Rattle.ledger.specs.Book.{statuses, connections, Status, LedgerBook, freshLedger, isStatus, oldest, place, Sending, refused, notStored, stored, sending, headerFor, sendBytes, sent, isGood, released, notHeld, run, Found, missing, found, lookup, statusOf, renewed}
-use Rattle.ledger.specs.Book as Book
+use Rattle.ledger.specs.Book.{statuses, connections, Status, LedgerBook, freshLedger, isStatus, oldest, place, Sending, refused, notStored, stored, sending, headerFor, sendBytes, sent, released, Found, missing, found, lookup, statusOf, renewed}
+use Rattle.ledger.specs.Answer.{Answer, resent, acknowledging, acknowledgedAnswer, resentAnswer}
+use Rattle.ledger.specs.Answer as Answers
 use Rattle.ledger.specs.declared.Ledger.{Ledger}
 use Rattle.ledger.specs.declared.Renewal.{Renewal}
 use Rattle.ledger.specs.declared.Sent.{Sent}
 use Rattle.ledger.specs.declared.Sent.the-variants as S
 use Rattle.ledger.specs.declared.Acknowledged.{Acknowledged}
 use Rattle.ledger.specs.declared.Acknowledged.the-variants.{Stale, Good}
-use Rattle.ledger.specs.declared.Run.{Run}
-use Rattle.ledger.specs.declared.Run.the-variants as R
 use Rattle.ledger.specs.declared.Resent.{Resent}
 use Rattle.ledger.specs.declared.Resent.the-variants as A
 
@@ -93,6 +92,7 @@ pub record SendsAt (c ticket : ℕ) (r : Response) (longest e m : ℕ) (out : Li
   pub bytes : out' ≡ sendBytes (sending b longest r) (headerFor b r e m) out
   pub agrees : SentAgrees c x ss' (sent b (record { header = headerFor b r e m; ticket = ticket }))
 
+-- Of any ledger the output keeps its length, and its bytes from 48 on.
 pub record Sends (c : ℕ) (l : Ledger) (ticket : ℕ) (r : Response) (longest e m : ℕ) (out : List ℕ) (ss : Statuses) (x : Sent) (out' : List ℕ)
     (ss' : Statuses) : Type 0 where
   pub meets : (b : LedgerBook) → Agrees c l ss b → SendsAt c ticket r longest e m out x out' ss' b
@@ -100,38 +100,36 @@ pub record Sends (c : ℕ) (l : Ledger) (ticket : ℕ) (r : Response) (longest e
   pub headers-size : length (ss .headers) ≡ ledgerSlots * headerSize → length (ss' .headers) ≡ ledgerSlots * headerSize
   pub tickets-size : length (ss .tickets) ≡ ledgerSlots → length (ss' .tickets) ≡ ledgerSlots
   pub stays : SentStays c ticket r x out out' ss ss'
+  pub out-size : length out' ≡ length out
+  pub out-rest : drop headerSize out' ≡ drop headerSize out
 
--- ---- acknowledge, SNACK, resend
+-- ---- acknowledge, resend
 
-unfoldable pub AcknowledgesAt : (c : ℕ) → Statuses → Acknowledged → LedgerBook → ℕ → Type 0
-AcknowledgesAt c ss Stale b e = isGood b e ≡ false
-AcknowledgesAt c ss (Good n l) b e = (isGood b e ≡ true) × (n ≡ place b e) × Agrees c l ss (released b e)
+-- The ledger after an acknowledgement that is good; of a stale one it stays the caller's.
+abbrev pub AcknowledgedAgrees : (c : ℕ) → Statuses → Acknowledged → LedgerBook → Type 0
+AcknowledgedAgrees c ss Stale b = Unit {0}
+AcknowledgedAgrees c ss (Good n l) b = Agrees c l ss b
 
-abbrev pub runAnswer : Run → Book.Run
-runAnswer R.NotHeld = notHeld
-runAnswer (R.Of f n) = run f n
+pub record AcknowledgesAt (c : ℕ) (ss : Statuses) (r : Acknowledged) (b : LedgerBook) (e : ℕ) : Type 0 where
+  pub answer : acknowledgedAnswer r ≡ acknowledging b e
+  pub agrees : AcknowledgedAgrees c ss r (released b e)
 
--- The ticket that a resend answers, and the lent output after it.
-pub data Shown : Type 0 where
-  nothing : Shown
-  ticket : ℕ → Shown
-
+-- The answer to a resend, and the lent output after it; SNACK for a "number not .. held".
 pub record Showing : Type 0 where
-  pub answer : Shown
+  pub answer : Answer
   pub bytes : List ℕ
 
 unfoldable pub showing : Found → Renewal → List ℕ → Showing
-showing missing x out = record { answer = nothing; bytes = out }
-showing (found s) x out = record { answer = ticket (s .ticket); bytes = renewed (s .header) x ++ drop headerSize out }
-
-abbrev pub shownOf : Resent → Shown
-shownOf A.NotHeld = nothing
-shownOf (A.Status t) = ticket t
+showing missing x out = record { answer = Answers.refused 12; bytes = out }
+showing (found s) x out = record { answer = resent (s .ticket); bytes = renewed (s .header) x ++ drop headerSize out }
 
 abbrev pub ResentStays : Resent → List ℕ → List ℕ → Type 0
 ResentStays A.NotHeld o o' = o' ≡ o
 ResentStays (A.Status t) o o' = Unit {0}
 
+-- Of any ledger the output keeps its length, and its bytes from 48 on.
 pub record Resends (c : ℕ) (l : Ledger) (n : ℕ) (x : Renewal) (ss : Statuses) (out : List ℕ) (r : Resent) (out' : List ℕ) : Type 0 where
-  pub meets : (b : LedgerBook) → Agrees c l ss b → _≡_ {A = Showing} (record { answer = shownOf r; bytes = out' }) (showing (statusOf b n) x out)
+  pub meets : (b : LedgerBook) → Agrees c l ss b → _≡_ {A = Showing} (record { answer = resentAnswer r; bytes = out' }) (showing (statusOf b n) x out)
   pub stays : ResentStays r out out'
+  pub out-size : length out' ≡ length out
+  pub out-rest : drop headerSize out' ≡ drop headerSize out

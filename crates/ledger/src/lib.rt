@@ -14,7 +14,8 @@ ghost use lib.ListN.{length};
 ghost use Rattle.response_fields.specs.WholeNumbers.{ownBytes};
 ghost use Rattle.store.specs.Slot.{headerSize};
 ghost use Rattle.ledger.specs.Book.{LedgerBook, statuses, connections, isStatus, place, runOf};
-ghost use Rattle.ledger.specs.Agree.{Statuses, statusesIn, Agrees, Opened, Stored, Sends, AcknowledgesAt, runAnswer, Resends};
+ghost use Rattle.ledger.specs.Agree.{Statuses, statusesIn, Agrees, Opened, Stored, Sends, AcknowledgesAt, Resends};
+ghost use Rattle.ledger.specs.Answer.{running, runAnswer};
 
 // The statuses that a ledger can hold, and its slots.
 pub const STATUSES: u32 = 32;
@@ -188,7 +189,7 @@ pub fn acknowledge(l: Ledger, exp_stat_sn: u32) -> Acknowledged
 // The run that a status SNACK asks for. BegRun and RunLength both 0 ask for all that is held; else BegRun must be held,
 // and RunLength 0 means from there to the end.
 pub fn run_of(l: Ledger, beg_run: u32, run_length: u32) -> Run
-    ensures { λ r. ⌜ ((c : ℕ) (ss : Statuses) (b : LedgerBook) → Agrees c l ss b → runAnswer r ≡ runOf b «beg_run» «run_length») ⌝ }
+    ensures { λ r. ⌜ ((c : ℕ) (ss : Statuses) (b : LedgerBook) → Agrees c l ss b → runAnswer r ≡ running (runOf b «beg_run» «run_length»)) ⌝ }
 {
     let held = l.held;
     if (beg_run == 0) & (run_length == 0) {

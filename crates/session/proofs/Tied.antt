@@ -15,7 +15,7 @@ use Rattle.book.specs.Demand.{Demand3}
 use Rattle.book.proofs.Sentences.{demand3-booked}
 use Rattle.session_state.specs.After.{afterWindow}
 use Rattle.session_state.specs.Agree.{State, state, Did}
-use Rattle.session_state.specs.History.{Ran, Booked, history}
+use Rattle.session_state.specs.History.{Ran, Booked, history, Each, Stayed, stayed}
 use Rattle.session_commands.specs.Answer.{offerAnswer, takeAnswer}
 use Rattle.session_connections.specs.Answer.{openAnswer, logoutAnswer}
 use Rattle.session_connections.specs.After.{afterOpen, afterLogout}
@@ -192,10 +192,11 @@ CalledBy windowNumbers d = ByNumbers d
 abbrev pub Called : Done → Type 1
 Called d = CalledBy (d .call) d
 
-abbrev DidIt : Done → Type 0
+-- The contract that all calls share, of what was done.
+abbrev pub DidIt : Done → Type 0
 DidIt d = Did (d .call) (d .before) (d .answer) (d .out) (d .after)
 
-called-did : (c : Call) (d : Done) → CalledBy c d → DidIt d
+pub called-did : (c : Call) (d : Done) → CalledBy c d → DidIt d
 called-did (offer c t p) d x = subst DidIt (sym (x .is)) (x .learnt (x .statuses))
 called-did (take o) d x = subst DidIt (sym (x .is)) (x .learnt (x .statuses))
 called-did (logout c r) d x = subst DidIt (sym (x .is)) (x .learnt (x .commands) (x .statuses))
@@ -211,9 +212,15 @@ pub data Calls : State → List Event → State → Type 1 where
   end : {s : State} → Calls s [] s
   then : {s s' s'' : State} {c : Call} {a : Answer} {o : Outputs} {es : List Event} → Called (done c s a o s') → Calls s' es s'' → Calls s (event c a o ∷ es) s''
 
-as-ran : {s s' : State} {es : List Event} → Calls s es s' → Ran s es s'
+-- Such a list as a history of contracts, over the same states and events.
+abbrev pub as-ran : {s s' : State} {es : List Event} → Calls s es s' → Ran s es s'
 as-ran end = Ran.done
 as-ran (then {s = s} {s' = s'} {c = c} {a = a} {o = o} p r) = Ran.next (called-did c (done c s a o s') p) (as-ran r)
+
+-- What stays, from any state at all, also one that stands for no book: a refused call leaves the struct, the arrays and what was lent,
+-- and every call the length of what was lent and its bytes from 48 on.
+pub stays : {s s' : State} {es : List Event} → (r : Calls s es s') → Each Stayed (as-ran r)
+stays r = stayed (as-ran r)
 
 -- A fresh session, as the contract of `fresh` has it: a is what it was given, w what it made.
 module _ (κs : Lifetimes.Lfts 0) (a : K.Dens {n = 0} κs fresh-k.ps) (w : K.resT fresh-k.r κs .Denot) (e : AtExit (K.endedOf 0 fresh-k.ps fresh-k.r) κs)

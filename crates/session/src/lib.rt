@@ -46,7 +46,7 @@ pub fn fresh(given: Given) -> FreshSession
         ledger: Ledger { next: 0, held: 0 },
     };
     let session = Session {
-        level: given.level,
+        level: given.level as u32,
         window: window,
         conns: [open, closed, closed, closed],
     };

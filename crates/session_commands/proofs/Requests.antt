@@ -9,8 +9,8 @@ use lib.Dec.{eqb}
 use Rattle.field.specs.Field.{pick, beAt, byte, bit}
 use Rattle.request_header.specs.declared.Request.the-variants as Q
 use Rattle.request_header.specs.Request.{limits, readPdu, got, refused, opcodeOf, requestOf, pduOf, loginOf, snackOf}
-use Rattle.request_header.specs.Verdicts.{fieldsOk, BeforeField}
-use Rattle.request_header.proofs.FieldRules.{and-true}
+use Rattle.request_header.specs.Verdicts.{fieldsOk, refusalBeforeField}
+use Rattle.request_header.proofs.FieldRules.{and-true, rules-past}
 use Rattle.book.specs.Book.{isOffered, offeredAs, denied, atOnce, numbered}
 use Rattle.book.proofs.Small.{not-snack}
 
@@ -28,11 +28,13 @@ module _ (s : List ℕ) where
   offered-by op true false e f g = rw (g, e, f)
   offered-by op false b e f g = rw (g, e)
 
-  pub offered-as : {n : ℕ} → BeforeField limits s n → n ≡ 0 → {r v : Bool} → r ≡ fieldsOk limits (opcodeOf s) s && isOffered (requestOf (opcodeOf s) s) → r ≡ v
+  pub offered-as : {n : ℕ} → n ≡ refusalBeforeField limits s → n ≡ 0
+      → {r v : Bool} → r ≡ fieldsOk limits (opcodeOf s) s && isOffered (requestOf (opcodeOf s) s) → r ≡ v
       → pick v (pick (bit (byte s 0) 64) atOnce (numbered (beAt s 24 4))) (denied 3) ≡ offeredAs (readPdu limits s)
-  offered-as b z e f = rw (sym f ∙ e) (sym (offered-by (opcodeOf s) _ _ refl refl (b .rules z)))
+  offered-as b z e f = rw (sym f ∙ e) (sym (offered-by (opcodeOf s) _ _ refl refl (rules-past limits s b z)))
 
   -- Login and SNACK are not offered
-  pub not-offered : (op : ℕ) → (op ≡ 0x00 → ⊥) → (op ≡ 0x01 → ⊥) → (op ≡ 0x02 → ⊥) → (op ≡ 0x06 → ⊥) → false ≡ fieldsOk limits op s && isOffered (requestOf op s)
+  pub not-offered : (op : ℕ) → (op ≡ 0x00 → ⊥) → (op ≡ 0x01 → ⊥) → (op ≡ 0x02 → ⊥) → (op ≡ 0x06 → ⊥)
+      → false ≡ fieldsOk limits op s && isOffered (requestOf op s)
   unfolding requestOf
   not-offered op x y z w = rw (ne-eqb _ _ x, ne-eqb _ _ y, ne-eqb _ _ z, ne-eqb _ _ w) (last-two (fieldsOk limits op s) (eqb op 0x03))

@@ -1,10 +1,11 @@
 -- The book's step at a SNACK, by its outcome.
 use Prim.Native.Nat.{ℕ, _<_}
-use mathlib.Core.Path.{_≡_, refl, _∙_}
+use mathlib.Core.Path.{_≡_, refl, sym, ap, _∙_}
 use mathlib.Core.List.{List}
 use Rattle.request_header.specs.Request.{limits, readPdu}
 use Rattle.ledger.specs.Book as L
-use Rattle.book.specs.Book.{OpenConnection, live, Book, noOutputs, snack, Choice, refused, run, step, connOf, onConnection, runStep, Asked, asked, deniedRun, from, snackBy, bookStep}
+use Rattle.ledger.specs.Answer as LA
+use Rattle.book.specs.Book.{OpenConnection, live, Book, noOutputs, snack, Choice, Answer, refused, acknowledged, run, resent, step, connOf, onConnection, runStep, Asked, asked, deniedRun, from, snackBy, bookStep}
 use Rattle.session_state.proofs.Steps.{reach-open}
 
 pub snack-eq : (b : Book) (c : ℕ) (p : List ℕ) (x : Choice)
@@ -22,14 +23,19 @@ pub snack-refused : (b : Book) (q : L.LedgerBook) (n : ℕ) → snackBy b q (den
 unfolding snackBy
 snack-refused b q n = refl
 
-pub snack-run : (b : Book) (q : L.LedgerBook) (f n : ℕ) (x : L.Run) → x ≡ L.runOf q f n → snackBy b q (from f n) ≡ runStep b x
+-- what the ledger answers to a run is the session's
+abbrev ledgerAnswer : LA.Answer → Answer
+ledgerAnswer (LA.refused n) = refused n
+ledgerAnswer (LA.acknowledged n) = acknowledged n
+ledgerAnswer (LA.run f n) = run f n
+ledgerAnswer (LA.resent t) = resent t
+
+run-step : (b : Book) (x : L.Run) → runStep b x ≡ step (ledgerAnswer (LA.running x)) noOutputs b
+unfolding runStep
+run-step b L.notHeld = refl
+run-step b (L.run f n) = refl
+
+pub snack-run : (b : Book) (q : L.LedgerBook) (f n : ℕ) (a : LA.Answer) → a ≡ LA.running (L.runOf q f n)
+    → snackBy b q (from f n) ≡ step (ledgerAnswer a) noOutputs b
 unfolding snackBy
-snack-run b q f n x e = rw (← e)
-
-pub run-none : (b : Book) → runStep b L.notHeld ≡ step (refused 12) noOutputs b
-unfolding runStep
-run-none b = refl
-
-pub run-some : (b : Book) (f n : ℕ) → runStep b (L.run f n) ≡ step (run f n) noOutputs b
-unfolding runStep
-run-some b f n = refl
+snack-run b q f n a e = run-step b (L.runOf q f n) ∙ ap (λ (x : LA.Answer). step (ledgerAnswer x) noOutputs b) (sym e)

@@ -8,15 +8,17 @@ use borrow.Author.Tests.{eqb-true, eqb-false, not-true, not-false}
 use lib.Dec.{eqb}
 use Rattle.field.specs.Field.{pick}
 use Rattle.request_header.specs.declared.Request.the-variants as Q
-use Rattle.request_header.specs.Request.{limits, readPdu, got, refused, known, opcodeOf, requestOf, pduOf, nopOutOf, scsiCommandOf, taskManagementOf, loginOf, logoutOf, snackOf}
-use Rattle.request_header.specs.Verdicts.{fieldsOk, BeforeField}
-use Rattle.request_header.proofs.FieldRules.{known-last}
+use Rattle.request_header.specs.Request.{limits, readPdu, got, refused, known, opcodeOf, requestOf, pduOf}
+use Rattle.request_header.specs.Request.{nopOutOf, scsiCommandOf, taskManagementOf, loginOf, logoutOf, snackOf}
+use Rattle.request_header.specs.Verdicts.{fieldsOk, refusalBeforeField}
+use Rattle.request_header.proofs.FieldRules.{known-last, known-past, rules-past}
 use Rattle.book.specs.Book.{askedBy, asked, deniedRun}
 
 module _ (s : List ℕ) where
   -- only a SNACK asks for a run: another kind is FIELD, whatever its fields are
   by-tests : (v : ℕ) (a b c d e : Bool) → (a ≡ false → b ≡ false → c ≡ false → d ≡ false → e ≡ false → ⊥)
-      → askedBy v (pick a (Q.NopOut (nopOutOf s)) (pick b (Q.ScsiCommand (scsiCommandOf s)) (pick c (Q.TaskManagement (taskManagementOf s)) (pick d (Q.Login (loginOf s)) (pick e (Q.Logout (logoutOf s)) (Q.Snack (snackOf s)))))))
+      → askedBy v (pick a (Q.NopOut (nopOutOf s)) (pick b (Q.ScsiCommand (scsiCommandOf s)) (pick c (Q.TaskManagement (taskManagementOf s))
+      (pick d (Q.Login (loginOf s)) (pick e (Q.Logout (logoutOf s)) (Q.Snack (snackOf s)))))))
       ≡ deniedRun 3
   by-tests v true b c d e h = refl
   by-tests v false true c d e h = refl
@@ -37,21 +39,22 @@ module _ (s : List ℕ) where
   other-by v op true e k f g = rw (g, e) (sym (none-asked v op k f))
   other-by v op false e k f g = rw (g, e)
 
-  snack-by : (v : ℕ) {r : Bool} → r ≡ fieldsOk limits 0x10 s → readPdu limits s ≡ pick (fieldsOk limits 0x10 s) (got (pduOf 0x10 s)) (refused 3) → (b : Bool) → r ≡ b
+  snack-by : (v : ℕ) {r : Bool} → r ≡ fieldsOk limits 0x10 s → readPdu limits s ≡ pick (fieldsOk limits 0x10 s) (got (pduOf 0x10 s)) (refused 3)
+      → (b : Bool) → r ≡ b
       → pick b (askedBy v (Q.Snack (snackOf s))) (deniedRun 3) ≡ asked v (readPdu limits s)
   unfolding pduOf requestOf
   snack-by v e g true f = rw (g, ← e, f)
   snack-by v e g false f = rw (g, ← e, f)
 
   -- FIELD for another kind, and for a SNACK that breaks a rule
-  pub not-asked : (v : ℕ) {n : ℕ} → BeforeField limits s n → n ≡ 0 → {r : Bool} → r ≡ fieldsOk limits 0x10 s → (t : Bool) → eqb (opcodeOf s) 0x10 ≡ t
+  pub not-asked : (v : ℕ) {n : ℕ} → n ≡ refusalBeforeField limits s → n ≡ 0 → {r : Bool} → r ≡ fieldsOk limits 0x10 s → (t : Bool) → eqb (opcodeOf s) 0x10 ≡ t
       → (not t || not r) ≡ true
       → deniedRun 3 ≡ asked v (readPdu limits s)
-  not-asked v b z e false f h = other-by v (opcodeOf s) _ refl (b .opcode z) (eqb-false (opcodeOf s) 0x10 f) (b .rules z)
-  not-asked v b z e true f h = snack-by v e (rw (eqb-true (opcodeOf s) 0x10 f) at (b .rules z)) false (not-true _ h)
+  not-asked v b z e false f h = other-by v (opcodeOf s) _ refl (known-past limits s b z) (eqb-false (opcodeOf s) 0x10 f) (rules-past limits s b z)
+  not-asked v b z e true f h = snack-by v e (rw (eqb-true (opcodeOf s) 0x10 f) at (rules-past limits s b z)) false (not-true _ h)
 
-  pub snack-asked : (v : ℕ) {n : ℕ} → BeforeField limits s n → n ≡ 0 → {r : Bool} → r ≡ fieldsOk limits 0x10 s → (t : Bool) → eqb (opcodeOf s) 0x10 ≡ t
+  pub snack-asked : (v : ℕ) {n : ℕ} → n ≡ refusalBeforeField limits s → n ≡ 0 → {r : Bool} → r ≡ fieldsOk limits 0x10 s → (t : Bool) → eqb (opcodeOf s) 0x10 ≡ t
       → (not t || not r) ≡ false
       → askedBy v (Q.Snack (snackOf s)) ≡ asked v (readPdu limits s)
   snack-asked v b z e false f h = cc
-  snack-asked v b z e true f h = snack-by v e (rw (eqb-true (opcodeOf s) 0x10 f) at (b .rules z)) true (not-false _ h)
+  snack-asked v b z e true f h = snack-by v e (rw (eqb-true (opcodeOf s) 0x10 f) at (rules-past limits s b z)) true (not-false _ h)

@@ -33,7 +33,7 @@ pub enum SnackAnswer {
 }
 
 // What a good SNACK asks for as a status SNACK: SNACK for another type or at level 0.
-fn run_in(level: u8, pdu: &[u8]) -> Asked
+fn run_in(level: u32, pdu: &[u8]) -> Asked
     requires { ⌜ 48 ≤ length (now pdu) ⌝ }
     ensures { λ x. ⌜ askedOf x ≡ askedBy level (Request.Snack (snackOf (now (pdu .entry)))) ⌝ }
 {
@@ -49,7 +49,7 @@ fn run_in(level: u8, pdu: &[u8]) -> Asked
 }
 
 // Reads the PDU of a SNACK call: reading's refusals, FIELD for another kind.
-fn read_snack(level: u8, pdu: &[u8]) -> Asked
+fn read_snack(level: u32, pdu: &[u8]) -> Asked
     ensures { λ r. ⌜ askedOf r ≡ asked level (readPdu limits (now (pdu .entry))) ⌝ }
 {
     let f = refusal_before_field(pdu, LIMITS);

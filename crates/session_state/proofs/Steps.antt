@@ -8,7 +8,7 @@ use native.Mathlib.Omega.{arith}
 use native.Mathlib.Decide.{ℕ-discrete}
 use borrow.Author.Tests.{lt-ltb, le-ltb}
 use lib.Dec.{ltb}
-use lib.ListN.{length, getD, set, length-set}
+use lib.ListN.{length, getD, set, drop, length-set}
 use lib.Seq.{getD-set-same, getD-set-other}
 use Rattle.field.specs.Field.{pick}
 use Rattle.window.specs.Book as W
@@ -24,7 +24,7 @@ use Rattle.session_state.specs.declared.Conn.{Conn}
 use Rattle.session_state.specs.declared.Session.{Session}
 use Rattle.session_state.specs.After.{noConn, connAt, afterWindow, afterConn, afterLedger}
 use Rattle.session_state.specs.Reach.{IsOpen}
-use Rattle.session_state.specs.Agree.{State, state, OpenAgrees, ConnAgrees, Agrees, MeetsAt, Changes, WindowStays, Stays, Did}
+use Rattle.session_state.specs.Agree.{State, state, OpenAgrees, ConnAgrees, Agrees, MeetsAt, Changes, WindowStays, Stays, KeepsLent, Did}
 
 -- ---- from the book's step, known whole
 
@@ -35,9 +35,13 @@ met call s a o s' b b' e g = record {
   agrees = subst (λ (x : Step). Agrees s' (x .book)) (sym e) g;
 }
 
+-- an output that is as it was lent
+pub as-lent : {l o : Outputs} → o ≡ l → KeepsLent l o
+as-lent q = record { size = ap (λ (x : Outputs). length (x .header)) q; rest = ap (λ (x : Outputs). drop 48 (x .header)) q }
+
 -- a refusal
 pub refusing : (call : Call) (s : State) (n : ℕ) (o : Outputs) → o ≡ lent call → ((b : Book) → Agrees s b → bookStep b call (choiceOf (refused n)) ≡ step (refused n) o b) → Did call s (refused n) o s
-refusing call s n o q f = record { meets = λ b g. met call s (refused n) o s b b (f b g) g; stays = (refl, q) }
+refusing call s n o q f = record { meets = λ b g. met call s (refused n) o s b b (f b g) g; stays = (refl, q); keeps = as-lent q }
 
 -- ---- the lent outputs
 
@@ -140,6 +144,7 @@ by-window call wcall s ss x x' a o q k d f = record {
       (f b g ∙ ap₂ (λ (y : W.Answer) (z : List ℕ). step (fromWindow y) (outputs z) (withWindow b (W.bookStep (b .window) wcall .book))) (sym (m .answer)) (sym (m .bytes)))
       (window-agrees s ss b x x' (W.bookStep (b .window) wcall .book) g (m .agrees));
   stays = subst (λ (l : Outputs). Stays call (fromWindow a) (embed s ss x) (embed s ss x') l (outputs o)) q (stays-window call wcall s ss a x x' (WA.lent wcall) o k (d .stays));
+  keeps = subst (λ (l : Outputs). KeepsLent l (outputs o)) q (record { size = d .out-size; rest = d .out-rest });
 }
 
 -- ---- a connection changed

@@ -113,7 +113,14 @@ Stays call (run f n) s s' l o = s' ≡ s
 Stays call (resent t) s s' l o = s' ≡ s
 Stays call (numbers e m) s s' l o = s' ≡ s
 
+-- Of whatever state, the lent output keeps its length, and its bytes from 48 on: a header goes "into the first 48 bytes of the lent
+-- buffer; later bytes stay".
+pub record KeepsLent (l o : Outputs) : Type 0 where
+  pub size : length (o .header) ≡ length (l .header)
+  pub rest : ListN.drop headerSize (o .header) ≡ ListN.drop headerSize (l .header)
+
 -- The contract of every call.
 pub record Did (call : Call) (s : State) (a : Answer) (o : Outputs) (s' : State) : Type 0 where
   pub meets : Meets call s a o s'
   pub stays : Stays call a s s' (lent call) o
+  pub keeps : KeepsLent (lent call) o

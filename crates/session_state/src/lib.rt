@@ -17,7 +17,7 @@ pub struct Conn {
 
 pub struct Session {
     // ErrorRecoveryLevel.
-    pub level: u8,
+    pub level: u32,
     pub window: Window,
     pub conns: [Conn; CONNS],
 }

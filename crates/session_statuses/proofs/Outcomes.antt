@@ -1,7 +1,7 @@
 -- The book's step at a send, an acknowledgement and a resend, by its outcome.
 use Prim.Native.Nat.{ℕ}
 use mathlib.Core.Path.{_≡_, refl, ap}
-use mathlib.Core.Bool.{true, false}
+use mathlib.Core.Bool.{Bool, true, false}
 use mathlib.Core.List.{List, _++_}
 use native.Mathlib.Omega.{arith}
 use borrow.Author.Tests.{eq-eqb, ne-eqb}
@@ -11,6 +11,7 @@ use Rattle.response_header.specs.declared.Response.{Response}
 use Rattle.window.specs.Book as W
 use Rattle.ledger.specs.Book as L
 use Rattle.ledger.specs.Agree as LA
+use Rattle.ledger.specs.Answer as Answers
 use Rattle.ledger.specs.declared.Renewal.{Renewal}
 use Rattle.book.specs.Book.{OpenConnection, withLedger, live, Book, Outputs, outputs, noOutputs, written, send, acknowledge, resend, Choice, refused, sent, acknowledged, resent, step, withConn, onConnection, lending, sendAs, sendBy, acknowledgeBy, renewal, shown, resendBy, bookStep}
 
@@ -49,12 +50,13 @@ module _ (b : Book) (c t : ℕ) (r : Response) (o : List ℕ) (k : OpenConnectio
 -- ---- resend
 
 module _ (b : Book) (o : List ℕ) (x : Renewal) where
-  pub shown-missing : (f : L.Found) (y : List ℕ) → _≡_ {A = LA.Showing} (record { answer = LA.nothing; bytes = y }) (LA.showing f x o) → shown b (outputs o) f ≡ step (refused 12) (outputs o) b
+  pub shown-missing : (f : L.Found) (y : List ℕ) → _≡_ {A = LA.Showing} (record { answer = Answers.refused 12; bytes = y }) (LA.showing f x o)
+      → shown b (outputs o) f ≡ step (refused 12) (outputs o) b
   unfolding shown LA.showing
   shown-missing L.missing y q = refl
   shown-missing (L.found s) y q = let z : _≡_ {A = ℕ} 0 1 = cc (ap (λ (w : LA.Showing). w .answer) q) in absurd (omega arith)
 
-  pub shown-found : (f : L.Found) (t : ℕ) (y : List ℕ) → _≡_ {A = LA.Showing} (record { answer = LA.ticket t; bytes = y }) (LA.showing f x o)
+  pub shown-found : (f : L.Found) (t : ℕ) (y : List ℕ) → _≡_ {A = LA.Showing} (record { answer = Answers.resent t; bytes = y }) (LA.showing f x o)
       → x ≡ renewal b → shown b (outputs o) f ≡ step (resent t) (outputs y) b
   unfolding shown written LA.showing
   shown-found L.missing t y q e = let z : _≡_ {A = ℕ} 0 1 = cc (ap (λ (w : LA.Showing). w .answer) q) in absurd (omega arith)
@@ -73,11 +75,21 @@ resend-some b n o k e = rw (ne-eqb (b .given .level) 0 e)
 
 -- ---- acknowledge
 
-pub acknowledge-stale : (b : Book) (c e : ℕ) (k : OpenConnection) → L.isGood (k .ledger) e ≡ false → acknowledgeBy b c e k ≡ step (refused 11) noOutputs b
-unfolding acknowledgeBy
-acknowledge-stale b c e k h = rw h
+module _ (b : Book) (c e : ℕ) (k : OpenConnection) where
+  pub acknowledge-stale : Answers.refused 11 ≡ Answers.acknowledging (k .ledger) e → acknowledgeBy b c e k ≡ step (refused 11) noOutputs b
+  unfolding acknowledgeBy Answers.acknowledging
+  acknowledge-stale q = go (L.isGood (k .ledger) e) refl
+    where
+      go : (g : Bool) → L.isGood (k .ledger) e ≡ g → acknowledgeBy b c e k ≡ step (refused 11) noOutputs b
+      go true h = let z : _≡_ {A = ℕ} 0 1 = cc (rw h at q) in absurd (omega arith)
+      go false h = rw h
 
-pub acknowledge-good : (b : Book) (c e n : ℕ) (k : OpenConnection) → L.isGood (k .ledger) e ≡ true → n ≡ L.place (k .ledger) e
-    → acknowledgeBy b c e k ≡ step (acknowledged n) noOutputs (withConn b c (live (withLedger k (L.released (k .ledger) e))))
-unfolding acknowledgeBy
-acknowledge-good b c e n k h p = rw (h, p)
+  pub acknowledge-good : (n : ℕ) → Answers.acknowledged n ≡ Answers.acknowledging (k .ledger) e
+      → acknowledgeBy b c e k ≡ step (acknowledged n) noOutputs (withConn b c (live (withLedger k (L.released (k .ledger) e))))
+  unfolding acknowledgeBy Answers.acknowledging
+  acknowledge-good n q = go (L.isGood (k .ledger) e) refl
+    where
+      go : (g : Bool) → L.isGood (k .ledger) e ≡ g
+          → acknowledgeBy b c e k ≡ step (acknowledged n) noOutputs (withConn b c (live (withLedger k (L.released (k .ledger) e))))
+      go true h = let p : n ≡ L.place (k .ledger) e = cc (rw h at q) in rw (h, p)
+      go false h = let z : _≡_ {A = ℕ} 0 1 = cc (rw h at q) in absurd (omega arith)

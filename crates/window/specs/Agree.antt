@@ -3,7 +3,7 @@
 use Prim.Native.Nat.{ℕ, _+_, _-_, _*_, _%_, _^_, _≤_, min}
 use mathlib.Core.Path.{_≡_}
 use mathlib.Core.List.{List, []}
-use lib.ListN.{length, getD, set, replicate}
+use lib.ListN.{length, getD, set, drop, replicate}
 use lib.Seq.{paste}
 use Rattle.store.specs.Slot.{headerSize, inSlot}
 use Rattle.place_map.specs.Bit.{bitAt, withBit}
@@ -151,7 +151,9 @@ Stays call (void n) s s' l o = o ≡ l
 Stays call (loggedOut e v) s s' l o = Unit {0}
 Stays call (refused n) s s' l o = (s' ≡ s) × (o ≡ l)
 
--- The contract of a call.
+-- The contract of a call; of any state the output keeps its length, and its bytes from 48 on.
 pub record Did (call : Call) (s : State) (a : Answer) (o : List ℕ) (s' : State) : Type 0 where
   pub meets : Meets call s a o s'
   pub stays : Stays call a s s' (lent call) o
+  pub out-size : length o ≡ length (lent call)
+  pub out-rest : drop headerSize o ≡ drop headerSize (lent call)

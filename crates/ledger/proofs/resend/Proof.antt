@@ -1,13 +1,14 @@
 -- `ledger::resend` meets its contract: what is held lies in the slot of its number.
 use Prim.Native.Nat.{ℕ, _+_, _*_, _%_, _-_, _≤_}
-use mathlib.Core.Path.{_≡_, refl}
+use mathlib.Core.Path.{_≡_, refl, _∙_}
 use mathlib.Core.List.{List, _++_}
 use native.Mathlib.Omega.{arith}
 use lib.ListN.{drop, length, length-drop}
 use lib.Seq.{length-take-le}
 use Rattle.store.specs.Slot.{inSlot}
+use Rattle.ledger.specs.Book.{renewed}
 use Rattle.ledger.specs.Agree.{statusesIn}
-use Rattle.ledger.proofs.Laws.{renew-both, resend-missing, resend-found}
+use Rattle.ledger.proofs.Laws.{renew-both, renew, length-renewed, headed-size, headed-rest, resend-missing, resend-found}
 use borrow.Author.Needs.{needs}
 use Rattle.ledger.proofs.resend.Statement.{statement}
 use Rattle.ledger.proofs.resend.Tie as tie
@@ -23,6 +24,8 @@ returns c =
       meets = λ b g. resend-missing (a .c) (a .l) _ (a .out .now) b (a .stat-sn) _ (a .renewal) g (c .before .before .place-of .ensures (a .c) _ b g)
           (c .if1 .taken);
       stays = refl;
+      out-size = refl;
+      out-rest = refl;
     }
 
 returns-2 : tie.Need-returns-2
@@ -33,14 +36,19 @@ returns-2 c =
     let a = read .before .before .before .before .before .before .before .args in
     let ss = statusesIn (a .headers .now) (a .tickets .now) in
     let slot = a .c * 32 + a .stat-sn % 32 in
-    let got : read .get .last .1 .1 .0 ≡ inSlot (a .headers .now) slot ++ drop 48 (a .out .now) = unfold inSlot in read .get .ensures in
-    record {
-      meets = λ b g.
-          rw (c .before .before .before .put .ensures, c .before .before .before .before .before .pair .ensures, renew-both, got)
-          (resend-found (a .c) (a .l) ss (a .out .now) b (a .stat-sn) (p .result) (a .renewal) g (p .ensures (a .c) ss b g) (omega arith) held
-          (size (a .headers .now) slot (omega (arith, g .headers-size, g .near))));
+    let h = inSlot (a .headers .now) slot in
+    let sz = size (a .headers .now) slot (omega arith) in
+    let got : read .get .last .1 .1 .0 ≡ h ++ drop 48 (a .out .now) = unfold inSlot in read .get .ensures in
+    let is : c .before .before .before .put .last .0 ≡ renewed h (a .renewal) ++ drop 48 (a .out .now) =
+    rw (c .before .before .before .put .ensures, c .before .before .before .before .before .pair .ensures, renew-both, got)
+    (renew h (drop 48 (a .out .now)) (a .renewal) sz) in
+    let fits = length-renewed h (a .renewal) ∙ sz in
+    rw is (record {
+      meets = λ b g. resend-found (a .c) (a .l) ss (a .out .now) b (a .stat-sn) (p .result) (a .renewal) g (p .ensures (a .c) ss b g) (omega arith) held;
       stays = tt;
-    }
+      out-size = headed-size (renewed h (a .renewal)) (a .out .now) fits (omega arith);
+      out-rest = headed-rest (renewed h (a .renewal)) (a .out .now) fits;
+    })
 
 pub resend-spec : {M : Type 1} → statement M
 resend-spec =

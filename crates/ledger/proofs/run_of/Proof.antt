@@ -2,7 +2,8 @@
 use Prim.Native.Nat.{_-_}
 use mathlib.Core.Path.{ap₂}
 use native.Mathlib.Omega.{arith}
-use Rattle.ledger.specs.Book.{runOf, run}
+use Rattle.ledger.specs.Book.{runOf}
+use Rattle.ledger.specs.Answer.{run}
 use Rattle.ledger.proofs.Laws.{oldest-is, run-far, run-rest, run-part, run-long}
 use borrow.Author.Needs.{needs}
 use Rattle.ledger.proofs.run_of.Statement.{statement}

@@ -44,7 +44,7 @@ returns c =
     rw (c .before .before .place .ensures ∙ front (a .out .now) h size)
     (sends-unstored (a .c) (a .l) (a .ticket) (a .r) (a .max-data) (a .exp-cmd-sn) (a .max-cmd-sn) (a .out .now)
     (statusesIn (a .headers .now) (a .tickets .now))
-    h (sym (o .ensures n)) no (λ b g. sending-unstored b (a .max-data) (a .r) ok no))
+    h (sym (o .ensures n)) size (omega arith) no (λ b g. sending-unstored b (a .max-data) (a .r) ok no))
 
 returns-2 : tie.Need-returns-2
 returns-2 c =
@@ -76,7 +76,7 @@ returns-4 c =
     rw (c .before .before .before .before .before .place2 .ensures ∙ front (a .out .now) h size)
     (sends-stored (a .c) (a .l) (a .ticket) (a .r) (a .max-data) (a .exp-cmd-sn) (a .max-cmd-sn) (a .out .now)
     (statusesIn (a .headers .now) (a .tickets .now))
-    h (sym (o .ensures n)) _ _ yes size (c .keep .ensures)
+    h (sym (o .ensures n)) size (omega arith) _ _ yes (c .keep .ensures)
     (λ b g. sending-stored b (a .max-data) (a .r) ok yes (subst (λ (k : ℕ). k < 32) (g .held) (room .if2 .left))))
 
 pub send-spec : {M : Type 1} → statement M

@@ -27,8 +27,8 @@ each x n k ss a e (suc (suc (suc (suc c)))) h = absurd (omega arith)
 returns : tie.Need-returns
 unfolding freshBook openedBy share connAt ConnAgrees
 returns c =
-    let w = c .before .before .before .before .fresh in
-    let o = c .opened in
+    let w = c .before .before .before .before .before .fresh in
+    let o = c .before .opened in
     record {
       agrees = record {
         level = refl;
@@ -46,4 +46,4 @@ returns c =
     }
 
 pub fresh-spec : {M : Type 1} → statement M
-fresh-spec = tie.close (tie.spec (λ c κs. search needs) (λ c κs. search needs) returns)
+fresh-spec = tie.close (tie.spec (λ c κs. search needs) (λ c κs. search needs) (λ c. search needs) returns)

@@ -3,7 +3,7 @@ use Prim.Native.Nat.{ℕ}
 use mathlib.Core.Path.{refl, sym, ap₂}
 use borrow.Author.Needs.{needs}
 use Rattle.book.specs.Book.{noOutputs, numbers, bookStep, step}
-use Rattle.session_state.proofs.Steps.{met}
+use Rattle.session_state.proofs.Steps.{met, as-lent}
 use Rattle.session.proofs.window_numbers.Statement.{statement}
 use Rattle.session.proofs.window_numbers.Tie as tie
 
@@ -15,6 +15,7 @@ returns c k ss =
     record {
       meets = λ b g. met _ _ _ _ _ b b (ap₂ (λ (x y : ℕ). step (numbers x y) noOutputs b) (sym (e .ensures k (b .window) (g .window))) (sym (m .ensures k (b .window) (g .window)))) g;
       stays = refl;
+      keeps = as-lent refl;
     }
 
 pub window-numbers-spec : {M : Type 1} → statement M

@@ -6,7 +6,7 @@ use borrow.Author.Needs.{needs}
 use Rattle.request_header.specs.Request.{limits}
 use Rattle.book.specs.Book.{noOutputs}
 use Rattle.book.proofs.Small.{offered-number}
-use Rattle.session_state.proofs.Steps.{met, refusing, reach-none, reach-closed, open-at, by-window}
+use Rattle.session_state.proofs.Steps.{met, as-lent, refusing, reach-none, reach-closed, open-at, by-window}
 use Rattle.session_commands.proofs.Outcomes.{offer-eq, offer-live, offer-refused, offer-immediate, offer-numbered, numbered-long}
 use Rattle.session_commands.proofs.offer.Statement.{statement}
 use Rattle.session_commands.proofs.offer.Tie as tie
@@ -48,6 +48,7 @@ returns-4 c ss =
           let v = open-at _ b (a .conn) _ g i in
           met _ _ _ _ _ b b (offer-live b (a .conn) (a .ticket) (a .pdu .now) (v .book) _ _ (v .near) (v .is) (v .agrees .limits) n ∙ offer-immediate b (a .conn) (a .ticket) (a .pdu .now)) g;
       stays = refl;
+      keeps = as-lent refl;
     }
 
 returns-5 : tie.Need-returns-5

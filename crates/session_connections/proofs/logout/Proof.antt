@@ -4,7 +4,7 @@ use mathlib.Core.Path.{refl, sym, ap, _∙_}
 use borrow.Author.Needs.{needs}
 use Rattle.window.specs.Book as W
 use Rattle.book.specs.Book.{noOutputs, fromWindow, step, connsLeft, loggedOut}
-use Rattle.session_state.proofs.Steps.{met, refusing, reach-none, reach-closed, open-at, reach-open}
+use Rattle.session_state.proofs.Steps.{met, as-lent, refusing, reach-none, reach-closed, open-at, reach-open}
 use Rattle.session_connections.proofs.Outcomes.{logout-eq, closing-leaves, left-agrees, logout-field, logout-done}
 use Rattle.session_connections.proofs.logout.Statement.{statement}
 use Rattle.session_connections.proofs.logout.Tie as tie
@@ -44,6 +44,7 @@ returns-4 c k ss =
           ∙ ap (λ (y : W.Answer). step (fromWindow y) noOutputs (record { given = b .given; window = W.bookStep (b .window) (W.logout (a .conn) (a .reason)) .book; conns = connsLeft (b .conns) (a .conn) (a .reason) })) (sym (m .answer)))
           (left-agrees _ b (a .conn) (a .reason) _ _ _ g (v .near) (closing-leaves (a .s .conns) (a .conn) (a .reason) (c .closed-by .result) (v .near) (g .conns-size) (c .closed-by .ensures)) (m .agrees));
       stays = tt;
+      keeps = as-lent refl;
     }
 
 pub logout-spec : {M : Type 1} → statement M

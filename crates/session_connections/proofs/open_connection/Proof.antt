@@ -4,7 +4,7 @@ use mathlib.Core.Path.{refl}
 use borrow.Author.Needs.{needs}
 use Rattle.book.specs.Book.{noOutputs, openedBy}
 use Rattle.session_state.specs.Agree.{ConnAgrees}
-use Rattle.session_state.proofs.Steps.{met, refusing, is-closed, open-at, conn-set}
+use Rattle.session_state.proofs.Steps.{met, as-lent, refusing, is-closed, open-at, conn-set}
 use Rattle.session_connections.proofs.Outcomes.{open-none, open-live, open-closed}
 use Rattle.session_connections.proofs.open_connection.Statement.{statement}
 use Rattle.session_connections.proofs.open_connection.Tie as tie
@@ -35,6 +35,7 @@ returns-3 c k ss =
           (record { is-open = refl; limits = refl; longest = refl; ledger = c .opened .ensures .agrees (a .conn) ss (n .0) (g .statuses-size) (g .tickets-size) })
           (λ j l q n y. y) (g .statuses-size) (g .tickets-size));
       stays = tt;
+      keeps = as-lent refl;
     }
 
 pub open-connection-spec : {M : Type 1} → statement M

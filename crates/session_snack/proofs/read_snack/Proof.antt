@@ -1,6 +1,7 @@
 -- `session_snack::read_snack` meets its contract: reading's refusals pass through, and past those before FIELD only a SNACK asks for a run.
 use mathlib.Core.Path.{_≡_, refl, sym, ap, _∙_}
 use borrow.Author.Needs.{needs}
+use Rattle.request_header.proofs.FieldRules.{refused-before, refused-number, long-past}
 use Rattle.book.specs.Book.{asked, deniedRun}
 use Rattle.session_snack.proofs.Requests.{not-asked, snack-asked}
 use Rattle.session_snack.proofs.read_snack.Statement.{statement}
@@ -8,16 +9,16 @@ use Rattle.session_snack.proofs.read_snack.Tie as tie
 
 returns : tie.Need-returns
 returns c =
-    let e = c .before .before .refusal-before-field .ensures .answer (c .before .if1 .taken) in
-    ap deniedRun (sym (c .refusal-of .ensures _ _ e)) ∙ sym (ap (asked _) e)
+    let e = refused-before _ _ (c .before .before .refusal-before-field .ensures) (c .before .if1 .taken) in
+    ap deniedRun (refused-number _ _ e (c .refusal-of .ensures)) ∙ sym (ap (asked _) e)
 
 shared-slice-read-if2 : tie.Need-shared-slice-read-if2
 shared-slice-read-if2 c =
-    let long = c .before .before .refusal-before-field .ensures .long (c .before .if1 .left) in
+    let long = long-past _ _ (c .before .before .refusal-before-field .ensures) (c .before .if1 .left) in
     search (needs, long)
 
 snack-ok-requires : tie.Need-snack-ok-requires
-snack-ok-requires c κs = c .before .before .refusal-before-field .ensures .long (c .before .if1 .left)
+snack-ok-requires c κs = long-past _ _ (c .before .before .refusal-before-field .ensures) (c .before .if1 .left)
 
 returns-2 : tie.Need-returns-2
 returns-2 c =
@@ -25,7 +26,7 @@ returns-2 c =
     not-asked _ _ (z .before .refusal-before-field .ensures) (z .if1 .left) (c .before .snack-ok .ensures _) _ refl (c .if2 .taken)
 
 run-in-requires : tie.Need-run-in-requires
-run-in-requires c κs = c .before .before .before .before .refusal-before-field .ensures .long (c .before .before .before .if1 .left)
+run-in-requires c κs = long-past _ _ (c .before .before .before .before .refusal-before-field .ensures) (c .before .before .before .if1 .left)
 
 returns-3 : tie.Need-returns-3
 returns-3 c =

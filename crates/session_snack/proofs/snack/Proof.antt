@@ -4,8 +4,8 @@ use mathlib.Core.Path.{refl, _∙_}
 use borrow.Author.Needs.{needs}
 use Rattle.book.specs.Book.{noOutputs}
 use Rattle.session_state.specs.Agree.{state}
-use Rattle.session_state.proofs.Steps.{met, refusing, reach-none, reach-closed, open-at}
-use Rattle.session_snack.proofs.Outcomes.{snack-eq, snack-live, snack-refused, snack-run, run-none, run-some}
+use Rattle.session_state.proofs.Steps.{met, as-lent, refusing, reach-none, reach-closed, open-at}
+use Rattle.session_snack.proofs.Outcomes.{snack-eq, snack-live, snack-refused, snack-run}
 use Rattle.session_snack.proofs.snack.Statement.{statement}
 use Rattle.session_snack.proofs.snack.Tie as tie
 
@@ -38,7 +38,7 @@ returns-4 c k ss =
     refusing _ _ 12 noOutputs refl (λ b g.
     let v = open-at (state (a .s) k ss) b (a .conn) _ g i in
     let r = rw (c .enum-told3 .given .1) at (c .before .before .run-of .ensures (a .conn) ss (v .book .ledger) (v .agrees .ledger)) in
-    snack-live b (a .conn) (a .pdu .now) (v .book) _ (a .s .level) _ (v .near) (v .is) (v .agrees .limits) (g .level) w ∙ snack-run b (v .book .ledger) _ _ _ r ∙ run-none b)
+    snack-live b (a .conn) (a .pdu .now) (v .book) _ (a .s .level) _ (v .near) (v .is) (v .agrees .limits) (g .level) w ∙ snack-run b (v .book .ledger) _ _ _ r)
 
 returns-5 : tie.Need-returns-5
 returns-5 c k ss =
@@ -49,8 +49,11 @@ returns-5 c k ss =
       meets = λ b g.
           let v = open-at (state (a .s) k ss) b (a .conn) _ g i in
           let r = rw (c .before .first .given .1) at (c .before .before .before .run-of .ensures (a .conn) ss (v .book .ledger) (v .agrees .ledger)) in
-          met _ _ _ _ _ b b (snack-live b (a .conn) (a .pdu .now) (v .book) _ (a .s .level) _ (v .near) (v .is) (v .agrees .limits) (g .level) w ∙ snack-run b (v .book .ledger) _ _ _ r ∙ run-some b _ _) g;
+          met _ _ _ _ _ b b
+          (snack-live b (a .conn) (a .pdu .now) (v .book) _ (a .s .level) _ (v .near) (v .is) (v .agrees .limits) (g .level) w
+          ∙ snack-run b (v .book .ledger) _ _ _ r) g;
       stays = refl;
+      keeps = as-lent refl;
     }
 
 pub snack-spec : {M : Type 1} → statement M

@@ -81,6 +81,7 @@ returns-6 c k =
           (c .before .before .before .before .before .before .before .before .exp-cmd-sn .ensures k (b .window) (g .window))
           (c .before .before .before .before .before .before .before .max-cmd-sn .ensures k (b .window) (g .window)))) g;
       stays = refl;
+      keeps = record { size = w .out-size; rest = w .out-rest };
     }
 
 pub resend-spec : {M : Type 1} → statement M

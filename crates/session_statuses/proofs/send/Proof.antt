@@ -66,6 +66,7 @@ returns-5 c k =
           (c .before .before .before .before .before .before .before .before .before .before .exp-cmd-sn .ensures k (b .window) (g .window)) (c .before .before .before .before .before .before .before .before .before .max-cmd-sn .ensures k (b .window) (g .window))
           (m .bytes) _ (rw (f .1) at (m .answer))) g;
       stays = rw (stays .0);
+      keeps = record { size = w .out-size; rest = w .out-rest };
     })
 
 returns-6 : tie.Need-returns-6
@@ -88,6 +89,7 @@ returns-6 c k =
           (ledger-set _ _ b (a .conn) _ _ _ g i v (rw (f .1) at (m .agrees))
           (λ j y q n z. w .others j y q n z) (w .headers-size (g .statuses-size)) (w .tickets-size (g .tickets-size)));
       stays = rw (stays .0) (stays .1);
+      keeps = record { size = w .out-size; rest = w .out-rest };
     }
 
 pub send-spec : {M : Type 1} → statement M

@@ -40,6 +40,8 @@ returns c cs =
           (origins-in w cs b k r g (mine .result) n hg lv lm m)
           (origins-out w cs b k r g (mine .result) n hg lv lm m)));
       stays = tt;
+      out-size = refl;
+      out-rest = refl;
     }
 
 pub logout-spec : {M : Type 1} → statement M

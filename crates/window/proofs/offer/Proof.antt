@@ -35,6 +35,8 @@ returns c =
           ∙ step-passed b (sub .result) _ (omega (arith, g .share)) (omega (arith, g .handed)))
           g;
       stays = refl;
+      out-size = refl;
+      out-rest = refl;
     }
 
 returns-2 : tie.Need-returns-2
@@ -50,6 +52,8 @@ returns-2 c =
           ∙ step-beyond b (sub .result) _ (omega (arith, g .share)) (omega (arith, g .handed)))
           g;
       stays = refl;
+      out-size = refl;
+      out-rest = refl;
     }
 
 returns-3 : tie.Need-returns-3
@@ -66,6 +70,8 @@ returns-3 c =
           (place-bit (a .w) (commands (a .headers .now) (a .tickets .now)) b (sub .result) 1 g (sym (c .if3 .taken) ∙ c .before .bit .ensures)))
           g;
       stays = refl;
+      out-size = refl;
+      out-rest = refl;
     }
 
 returns-4 : tie.Need-returns-4
@@ -94,6 +100,8 @@ returns-4 c =
           (keep-agrees (a .w) _ cs b d (a .ticket) (a .conn) header g low none (length-take-le 48 (a .pdu .now) (omega arith)) (omega arith)
           (c .entered .ensures)));
       stays = rw (ahead-is (a .w) (a .number) d (sub .ensures) (omega arith), ← at) (put, refl);
+      out-size = refl;
+      out-rest = refl;
     }
 
 pub offer-spec : {M : Type 1} → statement M
