@@ -1,20 +1,23 @@
 -- One turn of the loop that judges the pairs of a block.
-use mathlib.Core.Path.{_≡_, refl, ap}
+use mathlib.Core.Path.{_≡_, refl, sym, ap, _∙_, subst}
 use mathlib.Core.Bool.{Bool, true, false}
 use mathlib.Core.List.{List, [], _∷_, _++_}
 use Prim.Native.Nat.{ℕ, zero, suc, _+_, _*_, _-_, _<_, _≤_}
 use native.Mathlib.Omega.{arith}
-use lib.ListN.{length, drop, length-drop}
-use Rattle.text.specs.Text.{pick}
-use Rattle.text_block.specs.Block.{nameIn, valueIn, pairs}
+use lib.ListN.{length, take, drop, length-drop, take-append-drop}
+use lib.Seq.{length-take-le}
+use Rattle.text.specs.Text.{pick, before, has}
+use Rattle.text.proofs.Laws.{drop-end}
+use Rattle.text_block.specs.Block.{nameIn, valueIn, pairs, goodFirst, goodName}
 use Rattle.text_block.proofs.Pairs.{rest-at, some, none}
 use Rattle.key_replies.specs.Answer.{saidText}
 use Rattle.login_book.specs.Keys.{Keys, after}
 use Rattle.key_values.specs.declared.value.Judgement.{Judgement}
 use Rattle.key_values.specs.declared.value.Judgement.the-variants as J
-use Rattle.login_book.specs.Block.{onward, judge, judgeFirst, Result, stopped}
-use Rattle.login_block.specs.Contracts.{stopOf}
+use Rattle.login_book.specs.Block.{onward, judge, judgeFirst, judgeBlock, Result, stopped}
+use Rattle.login_block.specs.Contracts.{stopOf, Walked, walked, walk, resultOf, countOf, JudgedAs}
 use Rattle.login_block.specs.declared.block.Stop.the-variants.{Goes, Stops}
+use Rattle.login_block.specs.declared.block.Verdict.{Verdict}
 
 pub pairs-step : (s : List ℕ) (k n e : ℕ) → k < length s → e ≡ length (nameIn (drop k s)) + 1 + length (valueIn (drop k s))
     → pairs (suc n) (drop k s) ≡ record { name = nameIn (drop k s); value = valueIn (drop k s) } ∷ pairs n (drop (k + e + 1) s)
@@ -37,15 +40,61 @@ onward-goes (J.Refused m) r e = absurd (let z : _≡_ {A = ℕ} 0 1 = cc in omeg
 onward-goes (J.Said x) r e = refl
 onward-goes (J.Settles n x) r e = refl
 
-module _ (stage : ℕ) (leading : Bool) (ours : List ℕ) (s : Keys) (t b : List ℕ) (k m e : ℕ) (h : k < length b) (q : e ≡ length (nameIn (drop k b)) + 1 + length (valueIn (drop k b))) where
-  pub turn-stop : (st : ℕ) → stopOf (judgeFirst stage leading ours s (drop k b)) ≡ Stops st → judge stage leading ours s t (pairs (suc m) (drop k b)) ≡ stopped st
+module _ (stage : ℕ) (leading : Bool) (ours : List ℕ) (s : Keys) (t b : List ℕ) (k m e : ℕ) (h : k < length b)
+    (q : e ≡ length (nameIn (drop k b)) + 1 + length (valueIn (drop k b))) where
+  pub turn-stop : (st : ℕ) → stopOf (judgeFirst stage leading ours s (drop k b)) ≡ Stops st
+      → judge stage leading ours s t (pairs (suc m) (drop k b)) ≡ stopped st
   unfolding judge
   turn-stop st r = rw (pairs-step b k m e h q) (onward-stops (judgeFirst stage leading ours s (drop k b)) st _ r)
 
   pub turn-on : stopOf (judgeFirst stage leading ours s (drop k b)) ≡ Goes
-      → judge stage leading ours s t (pairs (suc m) (drop k b)) ≡ judge stage leading ours (after s (nameIn (drop k b)) (judgeFirst stage leading ours s (drop k b))) (t ++ saidText (nameIn (drop k b)) (judgeFirst stage leading ours s (drop k b))) (pairs m (drop (k + e + 1) b))
+      → judge stage leading ours s t (pairs (suc m) (drop k b))
+      ≡ judge stage leading ours (after s (nameIn (drop k b)) (judgeFirst stage leading ours s (drop k b)))
+      (t ++ saidText (nameIn (drop k b)) (judgeFirst stage leading ours s (drop k b))) (pairs m (drop (k + e + 1) b))
   unfolding judge
   turn-on r = rw (pairs-step b k m e h q) (onward-goes (judgeFirst stage leading ours s (drop k b)) _ r)
+
+  module _ (g : goodFirst (drop k b) ≡ true) where
+    pub walk-stop : (st : ℕ) → stopOf (judgeFirst stage leading ours s (drop k b)) ≡ Stops st
+        → walk (suc m) stage leading ours s t (drop k b)
+        ≡ walked (after s (nameIn (drop k b)) (judgeFirst stage leading ours s (drop k b)))
+        (t ++ saidText (nameIn (drop k b)) (judgeFirst stage leading ours s (drop k b)))
+    unfolding walk
+    walk-stop st r = rw (g, r)
+
+    pub walk-on : stopOf (judgeFirst stage leading ours s (drop k b)) ≡ Goes
+        → walk (suc m) stage leading ours s t (drop k b)
+        ≡ walk m stage leading ours (after s (nameIn (drop k b)) (judgeFirst stage leading ours s (drop k b)))
+        (t ++ saidText (nameIn (drop k b)) (judgeFirst stage leading ours s (drop k b))) (drop (k + e + 1) b)
+    unfolding walk
+    walk-on r = rw (g, r, rest-at b k e q)
+
+-- no pair is walked where none is good, nor at the end of a text
+module _ (stage : ℕ) (leading : Bool) (ours : List ℕ) (s : Keys) (t b : List ℕ) where
+  pub walk-bad : (n : ℕ) → goodFirst b ≡ false → walk n stage leading ours s t b ≡ walked s t
+  unfolding walk
+  walk-bad zero g = refl
+  walk-bad (suc n) g = rw g
+
+  pub walk-none : (n : ℕ) → n ≡ 0 → walk n stage leading ours s t b ≡ walked s t
+  unfolding walk
+  walk-none n e = rw e
+
+pub end-bad : (s : List ℕ) (k : ℕ) → length s ≤ k → goodFirst (drop k s) ≡ false
+unfolding goodFirst goodName before has
+end-bad s k h = rw (drop-end s k h)
+
+-- The contract, by how far the pairs were walked.
+pub judged-as : (stage : ℕ) (leading : Bool) (ours : List ℕ) (s : Keys) (a b old : List ℕ) (v : Verdict) (t : Keys) (new : List ℕ) (count : ℕ)
+    → walked t (take count new) ≡ walk 64 stage leading ours s a b → count ≤ length new → drop count new ≡ drop count old
+    → resultOf v t new ≡ judgeBlock stage leading ours s a b → countOf v ≤ length new → JudgedAs stage leading ours s a b old v t new
+judged-as stage leading ours s a b old v t new count w h r e f = record {
+  result = e;
+  few = f;
+  keys = ap (λ (x : Walked). x .keys) w;
+  bytes = subst (λ (x : Walked). new ≡ x .text ++ drop (length (x .text)) old) w
+      (sym (take-append-drop count new) ∙ ap (λ (x : List ℕ). take count new ++ x) (r ∙ ap (λ (n : ℕ). drop n old) (sym (length-take-le count new h))));
+}
 
 -- the status of a refused pair, where the form is good
 pub stop-status : (b : Bool) (st : ℕ) (r : Result) → stopped st ≡ r → stopped (pick b st 0x0200) ≡ pick b r (stopped 0x0200)

@@ -18,10 +18,9 @@ ghost use Rattle.text_block.specs.Block.{formed};
 ghost use Rattle.keys.specs.Contracts.{settledOf};
 ghost use Rattle.login_block.specs.Contracts.{stopOf, PairOf, FirstOf, JudgedAs};
 ghost use Rattle.login_types.specs.Agree.{keysOf};
-ghost use Rattle.login_book.specs.Block.{judgeBlock};
 
 // Whether a judgement refuses.
-pub enum Stop {
+enum Stop {
     Goes,
     Stops(u16),
 }
@@ -37,11 +36,11 @@ fn stop_of(j: Judgement) -> Stop
 }
 
 // The first pair of what is left: whether its form is good, its key, and where its name and its value end.
-pub struct Pair {
-    pub ok: bool,
-    pub key: usize,
-    pub eq: usize,
-    pub end: usize,
+struct Pair {
+    ok: bool,
+    key: usize,
+    eq: usize,
+    end: usize,
 }
 
 // A known key's name has a good form, so only another name is looked at byte by byte.
@@ -74,11 +73,11 @@ fn pair_in(rest: &[u8]) -> Pair
 }
 
 // The first pair of what is left, judged and answered: whether its form is good, the count of answered bytes, and its end.
-pub struct First {
-    pub ok: bool,
-    pub stop: Stop,
-    pub count: usize,
-    pub end: usize,
+struct First {
+    ok: bool,
+    stop: Stop,
+    count: usize,
+    end: usize,
 }
 
 fn judge_first(
@@ -137,6 +136,7 @@ fn pair_status(block: &[u8], status: u16) -> u16
 }
 
 // A block, its form looked at pair by pair as it is judged; its answer is put after the first `start` bytes of the output.
+// A refused block leaves the keys and the output as the pairs left of the refused one did; the caller keeps neither.
 pub fn judge_block(
     seen: &mut [bool; 28],
     values: &mut [u32],
@@ -148,7 +148,7 @@ pub fn judge_block(
     start: usize,
 ) -> Verdict
     requires { ⌜ (start + 4992 ≤ length (now out)) × (length (now values) ≡ 12) × (length (now seen) ≡ 28) ⌝ }
-    ensures { λ v. ⌜ JudgedAs (judgeBlock stage leading (now (ours .entry)) (keysOf (settledOf (now (seen .entry)) (now (values .entry)))) (take start (now (out .entry))) (now (block .entry))) (keysOf (settledOf (now (seen .exit)) (now (values .exit)))) v (now (out .exit)) ⌝ }
+    ensures { λ v. ⌜ JudgedAs stage leading (now (ours .entry)) (keysOf (settledOf (now (seen .entry)) (now (values .entry)))) (take start (now (out .entry))) (now (block .entry)) (now (out .entry)) v (keysOf (settledOf (now (seen .exit)) (now (values .exit)))) (now (out .exit)) ⌝ }
 {
     let mut count = start;
     let mut at = 0;

@@ -1,17 +1,19 @@
 -- What the code holds of a judged block, of the text output and of the gather area, for its contracts. This follows the code; the rules are in
 -- login_book's Login.
-use Prim.Native.Nat.{ℕ, _+_}
+use Prim.Native.Nat.{ℕ, _+_, _≤_}
 use mathlib.Core.Bool.{Bool, false, not, _&&_}
 use mathlib.Core.Path.{_≡_}
 use mathlib.Core.List.{List, _++_}
 use lib.ListN.{length, getD, take, drop}
 use lib.Dec.{eqb}
-use Rattle.text.specs.Text.{pick}
+use Rattle.text.specs.Text.{pick, bytes}
+use Rattle.key_table.specs.Table.{keyOf}
+use Rattle.key_table.specs.declared.parameters.Settled.{Settled}
 use Rattle.login_book.specs.Keys.{Keys, named}
 use Rattle.login_types.specs.Agree.{keysOf}
 use Rattle.login_book.specs.Login.{joined, startText}
 use Rattle.login_book.specs.Block.{Result, stopped, went, judgeBlock}
-use Rattle.login_block.specs.Contracts.{resultOf}
+use Rattle.login_block.specs.Contracts.{resultOf, countOf}
 use Rattle.login_block.specs.declared.block.Judged.{Judged}
 use Rattle.login_block.specs.declared.block.Verdict.{Verdict}
 use Rattle.login_block.specs.declared.block.Verdict.the-variants as D
@@ -26,9 +28,9 @@ pub record Joined (g : List ℕ) (at : ℕ) (d new kept : List ℕ) (r : ℕ) : 
   pub area : new ≡ joined g at d
   pub old : take (length d) kept ≡ take (length d) (drop at g)
 
--- both names came: InitiatorName and TargetName are at the places 16 and 17
+-- both names came
 abbrev pub bothSeen : List Bool → Bool
-bothSeen seen = getD seen 16 false && getD seen 17 false
+bothSeen seen = getD seen (keyOf (bytes "InitiatorName")) false && getD seen (keyOf (bytes "TargetName")) false
 
 -- if the first judged block lacks either name it is 0x0207, after its pairs
 abbrev pub withNames : Bool → Result → Result
@@ -51,9 +53,16 @@ abbrev pub textOf : Result → List ℕ → List ℕ
 textOf (stopped s) t = t
 textOf (went s a) t = a ++ drop (length a) t
 
--- the verdict v, with the keys s, and the text output after it say what the result is
-pub record Written (r : Result) (s : Keys) (v : Verdict) (old new : List ℕ) : Type 0 where
-  pub result : resultOf v s new ≡ r
+-- what is settled after a verdict: t, and where the block is refused s, as before it
+abbrev pub settledAfter : Verdict → Settled → Settled → Settled
+settledAfter (D.Refused status) s t = s
+settledAfter (D.Answered n) s t = t
+
+-- the verdict on a block, what is settled after it and the text output then say what the result is; a refusal leaves what was settled, and the output
+pub record Written (r : Result) (s : Settled) (j : Judged) (old new : List ℕ) : Type 0 where
+  pub result : resultOf (j .verdict) (keysOf (j .settled)) new ≡ r
+  pub few : countOf (j .verdict) ≤ length new
+  pub stays : j .settled ≡ settledAfter (j .verdict) s (j .settled)
   pub text : new ≡ textOf r old
 
 -- what is put back into the area g: the bytes k at `at`, where the block is refused
@@ -72,6 +81,7 @@ abbrev pub areaOf : Result → List ℕ → List ℕ → List ℕ
 areaOf (stopped s) g h = g
 areaOf (went s a) g h = h
 
-pub record JudgedIn (judged : Bool) (stage : ℕ) (leading : Bool) (ours : List ℕ) (s : Keys) (n : ℕ) (d : List ℕ) (j : Judged) (g t g' t' : List ℕ) : Type 0 where
-  pub written : Written (blockResult judged stage leading ours s (judgedBlock n d g)) (keysOf (j .settled)) (j .verdict) t t'
-  pub area : g' ≡ areaOf (blockResult judged stage leading ours s (judgedBlock n d g)) g (judgedArea n d g)
+pub record JudgedIn (judged : Bool) (stage : ℕ) (leading : Bool) (ours : List ℕ) (s : Settled) (n : ℕ) (d : List ℕ)
+    (j : Judged) (g t g' t' : List ℕ) : Type 0 where
+  pub written : Written (blockResult judged stage leading ours (keysOf s) (judgedBlock n d g)) s j t t'
+  pub area : g' ≡ areaOf (blockResult judged stage leading ours (keysOf s) (judgedBlock n d g)) g (judgedArea n d g)

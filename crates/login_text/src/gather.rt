@@ -7,11 +7,10 @@ use text::slice::append;
 ghost use mathlib.Core.Path.{_≡_};
 ghost use Prim.Native.Nat.{_+_, _≤_};
 ghost use lib.ListN.{length, take};
-ghost use Rattle.login_types.specs.Agree.{keysOf};
 ghost use Rattle.login_text.specs.Contracts.{blockOf, Joined, undone, JudgedIn};
 
 // The block to judge: the request's own data if nothing was gathered, and the gathered bytes otherwise.
-pub fn block_of<'a>(piece: &'a [u8], gather: &'a [u8], gathered: usize) -> &'a [u8]
+fn block_of<'a>(piece: &'a [u8], gather: &'a [u8], gathered: usize) -> &'a [u8]
     requires { ⌜ gathered ≤ length (now gather) ⌝ }
     ensures { λ r. ⌜ now r ≡ blockOf (now (piece .entry)) (now (gather .entry)) gathered ⌝ }
 {
@@ -59,7 +58,7 @@ pub fn judge_request(
     text: &mut [u8],
 ) -> Judged
     requires { ⌜ (8192 ≤ length (now gather)) × (8192 ≤ length (now text)) × (at + length (now piece) ≤ 8192) ⌝ }
-    ensures { λ r. ⌜ JudgedIn judged stage leading (now (ours .entry)) (keysOf s) at (now (piece .entry)) r (now (gather .entry)) (now (text .entry)) (now (gather .exit)) (now (text .exit)) ⌝ }
+    ensures { λ r. ⌜ JudgedIn judged stage leading (now (ours .entry)) s at (now (piece .entry)) r (now (gather .entry)) (now (text .entry)) (now (gather .exit)) (now (text .exit)) ⌝ }
 {
     if at == 0 {
         return judge_text(

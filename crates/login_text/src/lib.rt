@@ -1,3 +1,3 @@
 // The text of a login: gathered, judged as one block, and answered into the text output.
 pub mod gather;
-pub mod verdict;
+mod verdict;

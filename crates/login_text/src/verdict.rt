@@ -1,6 +1,8 @@
-// A block, judged and answered into the text output; a refusal leaves the output as it was.
+// A block, judged and answered into the text output; a refusal leaves the output and what was settled as they were.
 use key_table::parameters::Parameters;
 use key_table::parameters::Settled;
+use key_table::table::INITIATOR_NAME;
+use key_table::table::TARGET_NAME;
 use login_block::block::Judged;
 use login_block::block::Verdict;
 use login_block::block::judge_block;
@@ -13,7 +15,7 @@ ghost use Rattle.text.specs.Text.{Appended};
 ghost use Rattle.login_book.specs.Login.{startText};
 ghost use Rattle.login_block.specs.Contracts.{countOf};
 ghost use Rattle.login_types.specs.Agree.{keysOf};
-ghost use Rattle.login_text.specs.Contracts.{bothSeen, verdictAfter, textAfter, blockResult, Written};
+ghost use Rattle.login_text.specs.Contracts.{bothSeen, verdictAfter, textAfter, settledAfter, blockResult, Written};
 
 // The longest answer: the portal group's 23 bytes and 64 pairs of 78.
 const MAX_ANSWER: usize = 5015;
@@ -33,7 +35,7 @@ fn start_text(out: &mut [u8], judged: bool) -> usize
 fn is_named(seen: &[bool; 28]) -> bool
     ensures { λ r. ⌜ r ≡ bothSeen (now (seen .entry)) ⌝ }
 {
-    seen[16] & seen[17]
+    seen[INITIATOR_NAME] & seen[TARGET_NAME]
 }
 
 // Only an answer that is whole goes into the text output; the first judged block needs both names.
@@ -53,8 +55,18 @@ fn put_answer(v: Verdict, named: bool, answer: &[u8], text: &mut [u8]) -> Verdic
     }
 }
 
+// A refused block settles nothing, also not the pairs left of the refused one.
+fn settled_after(v: Verdict, s: Settled, t: Settled) -> Settled
+    ensures { λ r. ⌜ r ≡ settledAfter v s t ⌝ }
+{
+    match v {
+        Verdict::Refused(_) => s,
+        Verdict::Answered(_) => t,
+    }
+}
+
 // The pairs of the block and the names, after s was settled.
-pub fn judge_text(
+pub(crate) fn judge_text(
     s: Settled,
     judged: bool,
     stage: u8,
@@ -64,7 +76,7 @@ pub fn judge_text(
     text: &mut [u8],
 ) -> Judged
     requires { ⌜ 8192 ≤ length (now text) ⌝ }
-    ensures { λ r. ⌜ Written (blockResult judged stage leading (now (ours .entry)) (keysOf s) (now (block .entry))) (keysOf (r .settled)) (r .verdict) (now (text .entry)) (now (text .exit)) ⌝ }
+    ensures { λ r. ⌜ Written (blockResult judged stage leading (now (ours .entry)) (keysOf s) (now (block .entry))) s r (now (text .entry)) (now (text .exit)) ⌝ }
 {
     let mut scratch = [0u8; MAX_ANSWER];
     let at = start_text(&mut scratch, judged);
@@ -84,6 +96,7 @@ pub fn judge_text(
     let named = judged | is_named(&seen);
     let verdict = put_answer(v, named, &scratch, text);
     let parameters = Parameters { values };
-    let settled = Settled { seen, parameters };
+    let reached = Settled { seen, parameters };
+    let settled = settled_after(verdict, s, reached);
     Judged { settled, verdict }
 }

@@ -5,7 +5,7 @@ use mathlib.Core.List.{List, [], _∷_, _++_, append-assoc}
 use Prim.Native.Nat.{ℕ, zero, suc, _+_, _-_, _<_, _≤_}
 use native.Mathlib.Numerals.{add-one}
 use native.Mathlib.Omega.{arith}
-use native.Mathlib.Nat.{not-suc-le-zero, le-of-suc-le-suc, add-assoc, zero-add}
+use native.Mathlib.Nat.{not-suc-le-zero, add-assoc, zero-add}
 use borrow.Author.Tests.{eq-eqb, ne-eqb, eqb-true, eqb-false, lt-ltb, le-ltb, leb-true}
 use lib.ListN.{length, getD, take, drop, set, drop-of-length-le, length-drop, length-append, take-append-drop}
 use lib.Seq.{drop-cons, drop-drop, take-all, drop-set-lt, take-suc-set}
@@ -96,7 +96,8 @@ take-before x (y ∷ s) = take-go (eqb y x) y (before x s) s (take-before x s)
 pub false-true {ℓ} : {A : Type ℓ} → false ≡ true → A
 false-true e = absurd (let z : _≡_ {A = ℕ} 0 1 = cc in omega arith)
 
-past-go : (t : Bool) (x y : ℕ) (b s : List ℕ) (h : Bool) → eqb y x ≡ t → (h ≡ true → take (suc (length b)) s ≡ b ++ (x ∷ [])) → (t || h) ≡ true → take (suc (length (pick t [] (y ∷ b)))) (y ∷ s) ≡ pick t [] (y ∷ b) ++ (x ∷ [])
+past-go : (t : Bool) (x y : ℕ) (b s : List ℕ) (h : Bool) → eqb y x ≡ t → (h ≡ true → take (suc (length b)) s ≡ b ++ (x ∷ [])) → (t || h) ≡ true
+    → take (suc (length (pick t [] (y ∷ b)))) (y ∷ s) ≡ pick t [] (y ∷ b) ++ (x ∷ [])
 past-go true x y b s h e r k = ap (λ (z : ℕ). z ∷ []) (eqb-true y x e)
 past-go false x y b s h e r k = ap (λ (z : List ℕ). y ∷ z) (r k)
 
@@ -134,7 +135,8 @@ pub &&-right : (a b : Bool) → (a && b) ≡ true → b ≡ true
 &&-right false b e = cc
 
 -- A comma list is its first item and the list after the comma.
-items-go : (t h : Bool) (c : ℕ) (b s a : List ℕ) → items s ≡ b ∷ pick h (items a) [] → pick t ([] ∷ items s) (onto c (items s)) ≡ pick t [] (c ∷ b) ∷ pick (t || h) (items (pick t s a)) []
+items-go : (t h : Bool) (c : ℕ) (b s a : List ℕ) → items s ≡ b ∷ pick h (items a) []
+    → pick t ([] ∷ items s) (onto c (items s)) ≡ pick t [] (c ∷ b) ∷ pick (t || h) (items (pick t s a)) []
 items-go true h c b s a e = refl
 items-go false h c b s a e = rw e
 
@@ -160,11 +162,6 @@ pub listed-empty : (w : List ℕ) → listed w [] ≡ eqb (length w) 0
 unfolding listed items same
 listed-empty [] = refl
 listed-empty (x ∷ w) = sym (ne-eqb (suc (length w)) 0 (λ e. omega arith))
-
-pub getD-any {ℓ} : {A : Type ℓ} (l : List A) (k : ℕ) (d e : A) → k < length l → getD l k d ≡ getD l k e
-getD-any [] k d e h = absurd (not-suc-le-zero h)
-getD-any (x ∷ l) zero d e h = refl
-getD-any (x ∷ l) (suc k) d e h = getD-any l k d e (le-of-suc-le-suc h)
 
 -- A rule of tables, proved at every place below n by one test that antt computes.
 abbrev pub below : (ℕ → Bool) → ℕ → Bool
@@ -198,12 +195,16 @@ appended-none o at = record { count = omega arith; text = sym (onto-none (take a
 pub appended-one : (o : List ℕ) (at x : ℕ) → at < length o → Appended o at (x ∷ []) (set o at x) (at + 1)
 appended-one o at x h = record { count = refl; text = rw add-one (take-suc-set o at x h); rest = drop-set-lt (at + 1) o at x (omega arith) }
 
+-- What is behind stays, also where something was put before.
+pub appended-rest : (o : List ℕ) {p b q : List ℕ} {m n : ℕ} → Appended p m b q n → drop m p ≡ drop m o → drop n q ≡ drop n o
+appended-rest o {p} {b} {q} {m} {n} y e = y .rest ∙ (rw (y .count) (sym (drop-drop (length b) m p) ∙ ap (drop (length b)) e ∙ drop-drop (length b) m o))
+
 -- Two things put after each other.
 pub appended-then : {o a p b q : List ℕ} {at m n : ℕ} → Appended o at a p m → Appended p m b q n → Appended o at (a ++ b) q n
 appended-then {o} {a} {p} {b} {q} {at} {m} {n} x y = record {
   count = y .count ∙ (rw (x .count, length-append a b) (add-assoc at (length a) (length b)));
   text = y .text ∙ (rw (x .text) (append-assoc (take at o) a b));
-  rest = y .rest ∙ (rw (y .count) (sym (drop-drop (length b) m p) ∙ ap (drop (length b)) (x .rest) ∙ drop-drop (length b) m o));
+  rest = appended-rest o y (x .rest);
 }
 
 -- The whole output after an appending, and after one at its front.

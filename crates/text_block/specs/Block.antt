@@ -1,5 +1,5 @@
 -- A text block: its form, and its pairs.
-use Prim.Native.Nat.{ℕ, zero, suc}
+use Prim.Native.Nat.{ℕ, zero, suc, _+_}
 use mathlib.Core.Bool.{Bool, _&&_, _||_}
 use mathlib.Core.List.{List, [], _∷_}
 use lib.ListN.{length, getD, drop}
@@ -34,6 +34,10 @@ valueIn s = before 0 (after 61 s)
 
 abbrev pub restOf : List ℕ → List ℕ
 restOf s = after 0 (after 61 s)
+
+-- where it ends: before the zero byte after its value; where there is no =, or no zero byte, with the text
+unfoldable pub endIn : List ℕ → ℕ
+endIn s = pick (has 61 s) (length (nameIn s) + 1 + length (valueIn s)) (length s)
 
 unfoldable pub goodFirst : List ℕ → Bool
 goodFirst s = ((goodName (nameIn s) && has 61 s) && leb (length (valueIn s)) 255) && has 0 (after 61 s)

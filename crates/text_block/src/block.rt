@@ -3,8 +3,8 @@ use text::slice::find;
 ghost use mathlib.Core.Path.{_≡_};
 ghost use lib.ListN.{drop};
 ghost use Rattle.text.specs.Text.{all};
-ghost use Rattle.text_block.specs.Block.{nameByte, goodName, formed};
-ghost use Rattle.text_block.specs.Contracts.{SpanOf, CutOf};
+ghost use Rattle.text_block.specs.Block.{nameByte, goodName, goodFirst, wholeFirst, formed};
+ghost use Rattle.text_block.specs.Contracts.{SpanOf};
 
 pub const MAX_PAIRS: usize = 64;
 
@@ -64,7 +64,7 @@ pub struct Span {
 
 // The same, whatever the name is: ok if = is there, the value is not too long, and a zero byte follows it.
 pub fn cut_pair(s: &[u8]) -> Span
-    ensures { λ r. ⌜ CutOf (now (s .entry)) (r .eq) (r .end) (r .ok) ⌝ }
+    ensures { λ r. ⌜ SpanOf (now (s .entry)) (wholeFirst (now (s .entry))) r ⌝ }
 {
     let eq = find(s, 61);
     if eq == s.len() {
@@ -84,7 +84,7 @@ pub fn cut_pair(s: &[u8]) -> Span
 }
 
 fn first_pair(s: &[u8]) -> Span
-    ensures { λ r. ⌜ SpanOf (now (s .entry)) (r .eq) (r .end) (r .ok) ⌝ }
+    ensures { λ r. ⌜ SpanOf (now (s .entry)) (goodFirst (now (s .entry))) r ⌝ }
 {
     let p = cut_pair(s);
     if !p.ok {

@@ -20,18 +20,25 @@ judge-block-requires c κs =
     (omega (arith, e, m .ensures .count, m .kept), v, k)
 
 put-answer-requires : tie.Need-put-answer-requires
-put-answer-requires c κs = (c .before .before .before .before .before .before .judge-block .ensures .few, omega (arith, c .before .before .before .before .before .before .judge-block .kept, c .before .before .before .before .before .before .before .before .before .before .before .before .before .before .start-text .kept, c .before .before .before .before .before .before .before .before .before .before .before .before .before .before .before .before .before .before .before .pre))
+put-answer-requires c κs =
+    let d = c .before .before .before .before .before .before in
+    let m = d .before .before .before .before .before .before .before .before .start-text in
+    let p = d .before .before .before .before .before .before .before .before .before .before .before .before .before .pre in
+    (d .judge-block .ensures .few, omega (arith, d .judge-block .kept, m .kept, p))
 
 returns : tie.Need-returns
 returns c =
-    let p = c .before .before .put-answer .ensures in
-    let j = c .before .before .before .before .before .before .before .before .before .judge-block in
-    let m = c .before .before .before .before .before .before .before .before .before .before .before .before .before .before .before .before .before .start-text in
-    let n = c .before .before .before .before .before .is-named .ensures ∙ names-at (settledOf (j .last .0) (j .last .1 .0)) in
-    written-by _ _ _ _ _ _ _ _ _ _ _ _ _ _ (m .ensures .text) (j .ensures) n (p .0) (p .1)
+    let d = c .before .before .before .before .before .before .before .before .before .before in
+    let p = c .before .before .before .put-answer .ensures in
+    let j = d .judge-block in
+    let m = d .before .before .before .before .before .before .before .before .start-text in
+    let s = d .before .before .before .before .before .before .before .before .before .before .before .before .before .args .s in
+    let t = settledOf (j .last .0) (j .last .1 .0) in
+    let n = c .before .before .before .before .before .before .is-named .ensures ∙ names-at t in
+    written-by _ _ _ _ s _ _ _ t _ _ _ _ _ _ _ (m .ensures .text) (j .ensures) n (p .0) (p .1) (c .settled-after .ensures)
 
 pub judge-text-spec : {M : Type 1} → statement M
 judge-text-spec =
     tie.close (tie.spec
     (λ c. search needs) (λ c κs. search needs) (λ c. search needs) (λ c. search needs) judge-block-requires
-    (λ c κs. tt) (λ c. search needs) put-answer-requires (λ c. c .before .before .put-answer .kept .1 .1 .1 .0) returns)
+    (λ c κs. tt) (λ c. search needs) put-answer-requires (λ c κs. tt) (λ c. c .before .before .before .put-answer .kept .1 .1 .1 .0) returns)

@@ -9,19 +9,21 @@ use lib.Dec.{ltb, leb}
 use denote.Ref.{now}
 use lib.Seq.{length-take-le}
 use Rattle.text.specs.Text.{before, after, has}
-use Rattle.text_block.specs.Block.{goodFirst, goodName}
-use Rattle.text.proofs.Laws.{has-before, take-before, drop-before, rest-part, &&-false, &&-true, &&-right, false-true, length-after}
+use Rattle.text_block.specs.Block.{endIn}
+use Rattle.text.proofs.Laws.{has-before, drop-before, rest-part}
 use Rattle.text_block.proofs.block.cut_pair.Statement.{statement}
 use Rattle.text_block.proofs.block.cut_pair.Tie as tie
 
 returns : tie.Need-returns
+unfolding endIn
 returns c =
     let s = now (c .before .before .before .args .s) in
     let e : length s ≤ length (before 61 s) = omega (arith, c .before .find .ensures) in
     let h : has 61 s ≡ false = has-before 61 s ∙ le-ltb _ _ e in
-    record { right = rw h; name = λ e. false-true e; value = λ e. false-true e; inside = λ e. false-true e }
+    record { right = rw h; name = c .before .find .ensures .0; value = rw h (c .if1 .taken) }
 
 returns-2 : tie.Need-returns-2
+unfolding endIn
 returns-2 c =
     let s = now (c .before .before .before .before .before .args .s) in
     let f = c .before .before .before .find in
@@ -31,7 +33,7 @@ returns-2 c =
     let h : has 61 s ≡ true = has-before 61 s ∙ rw (← q) (lt-ltb _ _ lt) in
     let n : c .find2 .result ≡ length (before 0 (after 61 s)) = rw (← tail) (c .find2 .ensures .0) in
     let z : has 0 (after 61 s) ≡ ltb (c .find2 .result) (length (after 61 s)) = rw n (has-before 0 (after 61 s)) in
-    record { right = rw (h, z, ← n, tail); name = λ e. q; value = λ e. omega (arith, q, n); inside = λ e. let w : c .find2 .result < length (after 61 s) = ltb-true _ _ (&&-right (leb (c .find2 .result) 255) _ (rw tail at e)) in omega (arith, w, length-after 61 s, q) }
+    record { right = rw (h, z, ← n, tail); name = q; value = rw h (omega (arith, q, n)) }
 
 pub cut-pair-spec : {M : Type 1} → statement M
 cut-pair-spec =

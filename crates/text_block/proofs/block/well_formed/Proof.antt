@@ -6,8 +6,8 @@ use native.Mathlib.Omega.{arith}
 use borrow.Author.Tests.{not-true, not-false}
 use lib.ListN.{length, drop, length-drop}
 use denote.Ref.{now}
-use Rattle.text_block.specs.Block.{formed, goodFirst, nameIn, valueIn}
-use Rattle.text_block.proofs.Pairs.{formed-none, formed-bad, formed-step, formed-end}
+use Rattle.text_block.specs.Block.{formed, goodFirst, nameIn, valueIn, endIn}
+use Rattle.text_block.proofs.Pairs.{formed-none, formed-bad, formed-step, formed-end, good-whole, whole-ends, whole-inside}
 use Rattle.text.proofs.Laws.{rest-part}
 use Rattle.text_block.proofs.block.well_formed.Statement.{statement}
 use Rattle.text_block.proofs.block.well_formed.Tie as tie
@@ -19,13 +19,18 @@ abbrev μ-loop : tie.MeasureT-loop
 μ-loop s at₀ n₀ at n = length s - at
 
 -- the good pair lies within the text
-inside : (c : tie.After-struct-known2 Inv-loop μ-loop) → c .before .before .before .before .before .before .before .loop .at + c .before .before .before .first-pair .result .end < length (now (c .before .before .before .before .before .before .before .before .before .args .s))
+inside : (c : tie.After-struct-known2 Inv-loop μ-loop) → (
+    let l = c .before .before .before .before .before .before .before .loop in
+    let s = now (c .before .before .before .before .before .before .before .before .before .args .s) in
+    l .at + c .before .before .before .first-pair .result .end < length s)
 inside c =
     let p = c .before .before .before .first-pair in
     let l = c .before .before .before .before .before .before .before .loop in
     let s = now (c .before .before .before .before .before .before .before .before .before .args .s) in
-    let i : p .result .end < length (drop (l .at) s) = rw rest-part at (p .ensures .inside (not-false _ (c .before .if2 .left))) in
-    omega (arith, i, length-drop (l .at) s)
+    let g : goodFirst (drop (l .at) s) ≡ true = rw rest-part at (sym (p .ensures .right) ∙ not-false _ (c .before .if2 .left)) in
+    let e : p .result .end ≡ endIn (drop (l .at) s) = rw rest-part at (p .ensures .value) in
+    let w = good-whole (drop (l .at) s) g in
+    omega (arith, e, whole-ends (drop (l .at) s) w, whole-inside (drop (l .at) s) w, length-drop (l .at) s)
 
 loop-holds : tie.Need-loop-holds Inv-loop μ-loop
 loop-holds c = (omega arith, omega arith, refl)
@@ -72,9 +77,9 @@ loop-again c =
     let p = c .before .before .before .first-pair in
     let l = c .before .before .before .before .before .before .before .loop in
     let s = now (c .before .before .before .before .before .before .before .before .before .args .s) in
-    let ok = not-false _ (c .before .if2 .left) in
-    let g : goodFirst (drop (l .at) s) ≡ true = rw rest-part at (sym (p .ensures .right) ∙ ok) in
-    let e : p .result .end ≡ length (nameIn (drop (l .at) s)) + 1 + length (valueIn (drop (l .at) s)) = rw rest-part at (p .ensures .value ok) in
+    let g : goodFirst (drop (l .at) s) ≡ true = rw rest-part at (sym (p .ensures .right) ∙ not-false _ (c .before .if2 .left)) in
+    let w = whole-ends (drop (l .at) s) (good-whole (drop (l .at) s) g) in
+    let e : p .result .end ≡ length (nameIn (drop (l .at) s)) + 1 + length (valueIn (drop (l .at) s)) = (rw rest-part at (p .ensures .value)) ∙ w in
     let n : 64 - l .n ≡ suc (64 - (l .n + 1)) = omega arith in
     (omega (arith, inside c), omega arith, sym (formed-step s (l .at) (omega arith) (64 - (l .n + 1)) (p .result .end) g e) ∙ rw n at (l .inv .2))
 
