@@ -14,7 +14,8 @@ use Rattle.login_book.specs.Keys.{Keys, named}
 use Rattle.login_book.specs.Book.{LoginBook}
 use Rattle.login_types.specs.Agree.{keysOf, bookOf, answerOf, Answers}
 use Rattle.login_types.specs.declared.state.Answer.the-variants as W
-use Rattle.login_book.specs.Login.{startText, joined, withGather, fail, failText, finish, textStep, judgeStep, Outcome, Texted, accept, refuse, requestStep, kindStep, loginStep}
+use Rattle.login_book.specs.Login.{startText, joined, withGather, fail, failText, finish, textStep, judgeStep}
+use Rattle.login_book.specs.Login.{Outcome, Texted, accept, refuse, requestStep, kindStep, loginStep}
 use Rattle.login_text.specs.Contracts.{withNames, blockResult, textOf, judgedBlock, judgedArea, areaOf, JudgedIn}
 use Rattle.login_answer.specs.Contracts.{endStep, gatheredStep, finishStep}
 use Rattle.login.specs.Contracts.{foundStep, isSix, ReadAs, FoundAs}
@@ -56,7 +57,8 @@ abbrev resultStep : LoginBook → Login → ℕ → List ℕ → Result → Text
 resultStep l q new t (stopped s) = failText l s t
 resultStep l q new t (went s a) = accept q new s a t
 
-named-step : (l : LoginBook) (q : Login) (new : ℕ) (t : List ℕ) (s : Keys) (a : List ℕ) (b : Bool) → resultStep l q new t (pick b (stopped 0x0207) (went s a)) ≡ pick b (failText l 0x0207 t) (accept q new s a t)
+named-step : (l : LoginBook) (q : Login) (new : ℕ) (t : List ℕ) (s : Keys) (a : List ℕ) (b : Bool)
+    → resultStep l q new t (pick b (stopped 0x0207) (went s a)) ≡ pick b (failText l 0x0207 t) (accept q new s a t)
 named-step l q new t s a true = refl
 named-step l q new t s a false = refl
 
@@ -64,11 +66,13 @@ finish-is : (l : LoginBook) (q : Login) (new : ℕ) (t : List ℕ) (r : Result) 
 finish-is l q new t (stopped s) = refl
 finish-is l q new t (went s a) = named-step l q new t s a (not (l .judged) && not (named s))
 
-form-step : (l : LoginBook) (q : Login) (new : ℕ) (t : List ℕ) (r : Result) (b : Bool) → resultStep l q new t (withNames (l .judged) (pick b r (stopped 0x0200))) ≡ pick b (finish l q new t r) (failText l 0x0200 t)
+form-step : (l : LoginBook) (q : Login) (new : ℕ) (t : List ℕ) (r : Result) (b : Bool)
+    → resultStep l q new t (withNames (l .judged) (pick b r (stopped 0x0200))) ≡ pick b (finish l q new t r) (failText l 0x0200 t)
 form-step l q new t r true = finish-is l q new t r
 form-step l q new t r false = refl
 
-text-step : (l : LoginBook) (q : Login) (new : ℕ) (ours b t : List ℕ) → resultStep l q new t (blockResult (l .judged) (q .csg) (eqb (q .tsih) 0) ours (l .keys) b) ≡ textStep l q new ours b t
+text-step : (l : LoginBook) (q : Login) (new : ℕ) (ours b t : List ℕ)
+    → resultStep l q new t (blockResult (l .judged) (q .csg) (eqb (q .tsih) 0) ours (l .keys) b) ≡ textStep l q new ours b t
 unfolding blockResult textStep
 text-step l q new ours b t = form-step l q new t (judge (q .csg) (eqb (q .tsih) 0) ours (l .keys) (startText (l .judged)) (pairs 64 b)) (formed 64 b)
 
@@ -79,13 +83,14 @@ area-step l q new ours d g t true = refl
 area-step l q new ours d g t false = refl
 
 step-go : (l : State) (q : Login) (new : ℕ) (s : Settled) (v : Verdict) (t t' g h : List ℕ) → t' ≡ textOf (resultOf v (keysOf s) t') t
-    → _≡_ {A = Outcome} (outcomeOf (finishStep l q new s v) (areaOf (resultOf v (keysOf s) t') g h) t') (withGather g h (resultStep (bookOf l) q new t (resultOf v (keysOf s) t')))
+    → _≡_ {A = Outcome} (outcomeOf (finishStep l q new s v) (areaOf (resultOf v (keysOf s) t') g h) t')
+    (withGather g h (resultStep (bookOf l) q new t (resultOf v (keysOf s) t')))
 step-go l q new s (D.Refused x) t t' g h e = rw (← e)
 step-go l q new s (D.Answered n) t t' g h e = rw (← e)
 
 -- a judged block, answered, is the step of the rules
 judged-is : (l : State) (q : Login) (new : ℕ) (ours d : List ℕ) (j : Judged) (g t g' t' : List ℕ)
-    → JudgedIn (l .judged) (q .csg) (eqb (q .tsih) 0) ours (keysOf (l .settled)) (l .gathered) d j g t g' t'
+    → JudgedIn (l .judged) (q .csg) (eqb (q .tsih) 0) ours (l .settled) (l .gathered) d j g t g' t'
     → outcomeOf (finishStep l q new (j .settled) (j .verdict)) g' t' ≡ judgeStep (bookOf l) q new ours d g t
 unfolding judgeStep
 judged-is l q new ours d j g t g' t' x =
@@ -112,11 +117,13 @@ module _ (l : State) (r : Step) (g t : List ℕ) (o : Outcome) where
   finish-answers q new s (D.Refused x) f = record { outcome = f; stays = refl }
   finish-answers q new s (D.Answered n) f = record { outcome = f; stays = tt }
 
-  judge-answers : (q : Login) (new : ℕ) (s : Settled) (v : Verdict) → r ≡ finishStep l q new s v → outcomeOf (finishStep l q new s v) g t ≡ o → Answers l r g t o
+  judge-answers : (q : Login) (new : ℕ) (s : Settled) (v : Verdict) → r ≡ finishStep l q new s v → outcomeOf (finishStep l q new s v) g t ≡ o
+      → Answers l r g t o
   judge-answers q new s v e f = subst (λ (x : Step). Answers l x g t o) (sym e) (finish-answers q new s v f)
 
-pub judged-step : (r : Step) (l : State) (q : Login) (new : ℕ) (ours d : List ℕ) (j : Judged) (g t g' t' : List ℕ) (o : Outcome) → r ≡ finishStep l q new (j .settled) (j .verdict)
-    → JudgedIn (l .judged) (q .csg) (eqb (q .tsih) 0) ours (keysOf (l .settled)) (l .gathered) d j g t g' t' → judgeStep (bookOf l) q new ours d g t ≡ o → Answers l r g' t' o
+pub judged-step : (r : Step) (l : State) (q : Login) (new : ℕ) (ours d : List ℕ) (j : Judged) (g t g' t' : List ℕ) (o : Outcome)
+    → r ≡ finishStep l q new (j .settled) (j .verdict) → JudgedIn (l .judged) (q .csg) (eqb (q .tsih) 0) ours (l .settled) (l .gathered) d j g t g' t'
+    → judgeStep (bookOf l) q new ours d g t ≡ o → Answers l r g' t' o
 judged-step r l q new ours d j g t g' t' o e x f = judge-answers l r g' t' o q new (j .settled) (j .verdict) e (judged-is l q new ours d j g t g' t' x ∙ f)
 
 status-go : (m : Limits) (s : List ℕ) (f : Refusal) → readPdu m s ≡ Read.refused (number f) → status f ≡ 0
@@ -138,7 +145,8 @@ reading-status m s f e = status-go m s f (sym e)
 
 -- A request that is no Login, by its variant's place.
 not-third : (n : ℕ) → OneOf (0 ∷ 1 ∷ 2 ∷ 4 ∷ 5 ∷ []) n → n ≡ 3 → ⊥
-not-third n k e = ⊎-elim (λ a. omega arith) (λ b. ⊎-elim (λ a. omega arith) (λ c. ⊎-elim (λ a. omega arith) (λ d. ⊎-elim (λ a. omega arith) (λ f. omega arith) d) c) b) k
+not-third n k e =
+    ⊎-elim (λ a. omega arith) (λ b. ⊎-elim (λ a. omega arith) (λ c. ⊎-elim (λ a. omega arith) (λ d. ⊎-elim (λ a. omega arith) (λ f. omega arith) d) c) b) k
 
 -- FIELD for a PDU that is no Login, and for a new handle 0.
 module _ (l : LoginBook) (d : List ℕ) (live new : ℕ) (ours g t : List ℕ) where
@@ -162,14 +170,29 @@ module _ (l : LoginBook) (d : List ℕ) (live new : ℕ) (ours g t : List ℕ) w
 -- What a PDU is to a login: one that was read, and one that was not.
 module _ (new : ℕ) (pdu : List ℕ) where
   pub read-refused : (f : Refusal) → Read.answerOf (G.Refused f) ≡ readPdu limits pdu → ReadAs new pdu (N.Refused f)
-  read-refused f e = record { other = ne-eqb (number f) 6 (λ z. reading limits pdu (sym e ∙ ap Read.refused z)); step = λ l live ours g t. rw (← e, reading-status limits pdu f e); inside = omega arith; lent = λ q. false-true q }
+  read-refused f e = record {
+    other = ne-eqb (number f) 6 (λ z. reading limits pdu (sym e ∙ ap Read.refused z));
+    step = λ l live ours g t. rw (← e, reading-status limits pdu f e);
+    inside = omega arith;
+    lent = λ q. false-true q;
+  }
 
   module _ (p : Pdu) (e : Read.answerOf (G.Got p) ≡ readPdu limits pdu) where
     pub read-zero : new ≡ 0 → ReadAs new pdu (N.Refused F.Field)
-    read-zero z = record { other = refl; step = λ l live ours g t. rw (← e) (kind-zero l (dataOf pdu p) live new ours g t (p .request) z); inside = omega arith; lent = λ q. false-true q }
+    read-zero z = record {
+      other = refl;
+      step = λ l live ours g t. rw (← e) (kind-zero l (dataOf pdu p) live new ours g t (p .request) z);
+      inside = omega arith;
+      lent = λ q. false-true q;
+    }
 
     pub read-other : OneOf (0 ∷ 1 ∷ 2 ∷ 4 ∷ 5 ∷ []) (tagOf the-type (p .request)) → ReadAs new pdu (N.Refused F.Field)
-    read-other k = record { other = refl; step = λ l live ours g t. rw (← e) (kind-none l (dataOf pdu p) live new ours g t (p .request) k); inside = omega arith; lent = λ q. false-true q }
+    read-other k = record {
+      other = refl;
+      step = λ l live ours g t. rw (← e) (kind-none l (dataOf pdu p) live new ours g t (p .request) k);
+      inside = omega arith;
+      lent = λ q. false-true q;
+    }
 
     pub read-got : (q : Login) → p .request ≡ R.Login q → (new ≡ 0 → ⊥) → ReadAs new pdu (N.Login q (p .«data_start») (p .«data_segment_length»))
     unfolding dataOf
@@ -193,15 +216,27 @@ module _ (over : Bool) (new gather text : ℕ) (pdu : List ℕ) where
 
   pub found-small : (ltb gather 8192 || ltb text 8192) ≡ true → FoundAs over new gather text pdu (N.Refused F.Buffer)
   unfolding loginStep
-  found-small a = record { other = refl; step = λ l live ours g t e m n. small (ltb (length g) 8192) (ltb (length t) 8192) _ _ (rw (m, n) a); inside = omega arith; lent = λ q. false-true q }
+  found-small a = record {
+    other = refl;
+    step = λ l live ours g t e m n. small (ltb (length g) 8192) (ltb (length t) 8192) _ _ (rw (m, n) a);
+    inside = omega arith;
+    lent = λ q. false-true q;
+  }
 
   module _ (a : (ltb gather 8192 || ltb text 8192) ≡ false) where
     reached : (x y z : Outcome) (g t : List ℕ) → length g ≡ gather → length t ≡ text → y ≡ z → y ≡ pick (ltb (length g) 8192) x (pick (ltb (length t) 8192) x z)
-    reached x y z g t m n e = sym (past _ _ _ _ (ap (λ (k : ℕ). ltb k 8192) m ∙ large (ltb gather 8192) (ltb text 8192) a .0) (past _ _ _ _ (ap (λ (k : ℕ). ltb k 8192) n ∙ large (ltb gather 8192) (ltb text 8192) a .1) (sym e)))
+    reached x y z g t m n e =
+        let b = large (ltb gather 8192) (ltb text 8192) a in
+        sym (past _ _ _ _ (ap (λ (k : ℕ). ltb k 8192) m ∙ b .0) (past _ _ _ _ (ap (λ (k : ℕ). ltb k 8192) n ∙ b .1) (sym e)))
 
     pub found-closed : over ≡ true → FoundAs over new gather text pdu (N.Refused F.Closed)
     unfolding loginStep
-    found-closed c = record { other = refl; step = λ l live ours g t e m n. reached _ _ _ g t m n (sym (here (l .over) _ _ (e ∙ c))); inside = omega arith; lent = λ q. false-true q }
+    found-closed c = record {
+      other = refl;
+      step = λ l live ours g t e m n. reached _ _ _ g t m n (sym (here (l .over) _ _ (e ∙ c)));
+      inside = omega arith;
+      lent = λ q. false-true q;
+    }
 
     pub found-read : over ≡ false → (f : Found) → ReadAs new pdu f → FoundAs over new gather text pdu f
     unfolding loginStep
@@ -217,12 +252,15 @@ module _ (l : State) (pdu : List ℕ) (live new : ℕ) (ours g t : List ℕ) (f 
   found-step : (h : Found) → f ≡ h → foundStep h (bookOf l) pdu live new ours g t ≡ loginStep (bookOf l) pdu live new ours g t
   found-step h e = ap (λ (y : Found). foundStep y (bookOf l) pdu live new ours g t) (sym e) ∙ x .step (bookOf l) live ours g t refl refl refl
 
-  pub found-refused : (why : Refusal) → f ≡ N.Refused why → Answers l (record { state = l; answer = W.Refused why }) g t (loginStep (bookOf l) pdu live new ours g t)
+  pub found-refused : (why : Refusal) → f ≡ N.Refused why
+      → Answers l (record { state = l; answer = W.Refused why }) g t (loginStep (bookOf l) pdu live new ours g t)
   found-refused why e = record { outcome = found-step (N.Refused why) e; stays = sym (past _ _ _ _ (ap isSix (sym e) ∙ x .other) refl) }
 
-  pub found-login : (q : Login) (a n : ℕ) (r : Step) (g' t' : List ℕ) → f ≡ N.Login q a n → Answers l r g' t' (requestStep (bookOf l) q (take (a + n - a) (drop a pdu)) live new ours g t)
+  pub found-login : (q : Login) (a n : ℕ) (r : Step) (g' t' : List ℕ) → f ≡ N.Login q a n
+      → Answers l r g' t' (requestStep (bookOf l) q (take (a + n - a) (drop a pdu)) live new ours g t)
       → Answers l r g' t' (loginStep (bookOf l) pdu live new ours g t)
   found-login q a n r g' t' e w = record {
-    outcome = w .outcome ∙ ap (λ (k : ℕ). requestStep (bookOf l) q (take k (drop a pdu)) live new ours g t) (add-sub-cancel-left a n) ∙ found-step (N.Login q a n) e;
+    outcome = w .outcome ∙ ap (λ (k : ℕ). requestStep (bookOf l) q (take k (drop a pdu)) live new ours g t) (add-sub-cancel-left a n)
+        ∙ found-step (N.Login q a n) e;
     stays = w .stays;
   }

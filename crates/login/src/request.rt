@@ -53,7 +53,7 @@ fn request_step(
 }
 
 // What a PDU is to a login: a Login and where its data lies, or a refusal.
-pub enum Found {
+enum Found {
     Login(Login, usize, usize),
     Refused(Refusal),
 }

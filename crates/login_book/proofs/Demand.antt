@@ -1,240 +1,271 @@
--- The promises of specs/Demand: four kinds of outcome (refused, failed with a status, gathered, answered), each shown to keep them all,
--- and the definition walked from choice to choice.
+-- Demand 2 of the events of a list of requests. The invariant is that the login left is the one that the list says (`left-by`), with what the list
+-- says of its stage and keys (`Good`); it goes by induction on the list, the parts of one request being those of Promised.
 use mathlib.Core.Path.{_≡_, refl, sym, ap, _∙_, subst}
 use mathlib.Core.Bool.{Bool, true, false, not, _&&_, _||_}
 use mathlib.Core.List.{List, [], _∷_, _++_, List·Memᴰ, List·Memᴰ·head, List·Memᴰ·tail}
-use Prim.Native.Nat.{ℕ, _<_}
+use mathlib.Core.Logic.{_⊎_, inl, inr, ⊎-elim}
+use Prim.Native.Nat.{ℕ, suc, _+_, _<_, _≤_}
 use native.Mathlib.Omega.{arith}
-use borrow.Author.Tests.{ne-eqb, eqb-true, eqb-false, not-true, not-false}
-use lib.ListN.{length, getD, take}
-use lib.Dec.{eqb, ltb}
-use Rattle.request_header.specs.Request.{readPdu, limits, dataOf}
-use Rattle.request_header.specs.Request as Read
+use borrow.Author.Tests.{eqb-true, ne-eqb}
+use lib.ListN.{length}
+use lib.Dec.{eqb}
 use Rattle.request_header.specs.declared.Login.{Login}
-use Rattle.request_header.specs.declared.Pdu.{Pdu}
-use Rattle.request_header.specs.declared.Request.{Request}
-use Rattle.request_header.specs.declared.Request.the-variants as R
 use Rattle.text.specs.Text.{pick, same}
-use Rattle.text_block.specs.Block.{Pair, formed, pairs}
-use Rattle.text.proofs.Laws.{&&-left, &&-right, &&-true, &&-false, false-true, past, here, same-eq}
-use Rattle.key_table.specs.Table.{noneSeen, standards, rows, rowAt, keyOf}
+use Rattle.text.proofs.Laws.{&&-left, &&-right, &&-true, &&-false, false-true, past as skip, here, same-eq}
+use Rattle.text_block.specs.Block.{Pair}
+use Rattle.key_table.specs.Table.{keyOf, rowAt}
 use Rattle.key_values.specs.Settle.{settling}
-use Rattle.login_book.specs.Keys.{Keys, noneCame, named}
-use Rattle.login_book.specs.Book.{Stage, inStage, permitted, LoginBook, freshBook}
 use Rattle.key_values.proofs.Ranges.{settled-in}
-use Rattle.login_book.specs.Block.{judge, Result, stopped, went}
-use Rattle.login_book.specs.Login.{Answer, refused, Outcome, Texted, refuse, fail, Check, checks, firstBroken, statusOf, joined, gatherStep, startText, accept, finish, textStep, withGather, judgeStep, requestStep, kindStep, readStep, loginStep}
-use Rattle.login_book.specs.Demand.{asks, accepted, Cause, check-broken, form-broken, pair-refused, names-lacking, blockIn, valueAfter, judgedOf, judgedIn, Promised, Call, stepOf, loginAfter, offersIn, taken, Demand}
-use Rattle.login_book.proofs.Checks.{status-kept}
-use Rattle.login_book.proofs.Reading.{reading}
-use Rattle.login_book.proofs.Values.{start-length, judged-value, judged-length, judged-stop}
+use Rattle.login_book.specs.Keys.{noneCame}
+use Rattle.login_book.specs.Book.{Stage, start, inStage, permitted, Phase, atStart, begun, stageOf, LoginBook, freshBook}
+use Rattle.login_book.specs.Login.{Answer, refused, answered, Outcome, ended, differs, gatherStep, handle, stageAfter, accept, withGather}
+use Rattle.login_book.specs.Events.{Call, Event, event, stepOf, eventsOf, aLogin, readAs, onLogin, accepted, isSix, names3, keysAfter, overIn, since, phaseIn, judgedIn, gatheredIn, offersOf, offersIn, keysIn, bookIn}
+use Rattle.login_book.specs.Rules.{Passes, Unrefused, Refuses, buffer, closed, unreadable, no-handle, check-broken, form-broken, pair-refused, names-lacking, Accepts, gathers, judges}
+use Rattle.login_book.specs.Demand.{csgFits, stageThen, goesOn, isPath, enters, entered, entries, isFull, taken, valueAfter, isOffered, Sentences, Each, Demand2}
+use Rattle.login_book.proofs.Checks.{both-go, step-is, step-of, check-kept}
+use Rattle.login_book.proofs.Rules.{areaThen, by-gathering, by-judging, by-refusal, keysThen, textThen, Decided, refuses, accepts, decided}
+use Rattle.login_book.proofs.Promised.{offers-in, promised}
 
-true-false : {A : Type 0} → true ≡ false → A
-true-false e = false-true (sym e)
+-- ---- the login that is left is the one that the list says
 
--- ---- laws of the notions
+or-none : (a : Bool) → (a || false) ≡ a
+or-none true = refl
+or-none false = refl
 
-over-go : (b s : Bool) → b ≡ false → s ≡ false → b ≡ (s || (b && false))
-over-go true s p q = true-false p
-over-go false true p q = true-false q
-over-go false false p q = refl
+either-go : (over x n : Bool) → over ≡ n → x ≡ false → ((over && true) || x) ≡ n
+either-go over x n e f = rw (e, f) (or-none (n && true) ∙ &&-true n)
 
-entered-go : (t e : Bool) (csg nsg : ℕ) → eqb nsg 3 ≡ e → (t ≡ true → permitted (inStage csg) nsg ≡ true) → ((t && e) && true) ≡ (((t && e) && permitted (inStage csg) 3) && (t && eqb (pick t nsg 0) 3))
-entered-go true true csg nsg q p = let n : nsg ≡ 3 = eqb-true nsg 3 q in let r : permitted (inStage csg) 3 ≡ true = rw n at (p refl) in rw (r, q)
-entered-go true false csg nsg q p = refl
-entered-go false e csg nsg q p = refl
+same-book : (x y : LoginBook) → x .over ≡ y .over → x .phase ≡ y .phase → x .judged ≡ y .judged → x .keys ≡ y .keys → x .gathered ≡ y .gathered → x ≡ y
+same-book x y a b c d e i = record { over = a i; phase = b i; judged = c i; keys = d i; gathered = e i }
 
-stage-go : (t e : Bool) (csg nsg : ℕ) → eqb nsg 3 ≡ e → ((t && e) && true) ≡ true → inStage (pick t nsg csg) ≡ inStage 3
-stage-go true true csg nsg q h = ap inStage (eqb-true nsg 3 q)
-stage-go true false csg nsg q h = false-true h
-stage-go false e csg nsg q h = false-true h
+left-refused : (z : Bool) (past : List Event)
+    → pick z (ended (bookIn past)) (bookIn past)
+    ≡ record { over = (z || false) || overIn past; phase = phaseIn past; judged = judgedIn past; keys = keysIn past; gathered = gatheredIn past }
+left-refused true past = refl
+left-refused false past = refl
 
-none-of : (r : Request) (l : LoginBook) (d g : List ℕ) (a : Answer) → accepted a ≡ false → judgedOf r l d g a ≡ []
-none-of (R.NopOut x) l d g a e = refl
-none-of (R.ScsiCommand x) l d g a e = refl
-none-of (R.TaskManagement x) l d g a e = refl
-none-of (R.Login q) l d g a e = rw e
-none-of (R.Logout x) l d g a e = refl
-none-of (R.Snack x) l d g a e = refl
+none-go : (a b c : Bool) → ((not a || not b) || not c) ≡ false → (a ≡ true) × (b ≡ true) × (c ≡ true)
+none-go true true true e = (refl, refl, refl)
+none-go true true false e = false-true (sym e)
+none-go true false c e = false-true (sym e)
+none-go false b c e = false-true (sym e)
 
-none-in : (r : Read.Answer) (l : LoginBook) (pdu g : List ℕ) (a : Answer) → accepted a ≡ false → judgedIn r l pdu g a ≡ []
-none-in (Read.refused n) l pdu g a e = refl
-none-in (Read.got p) l pdu g a e = none-of (p .request) l (dataOf pdu p) g a e
+-- a request that differs from the first in nothing bears the first's numbers
+since-go : (x : Phase) (q : Login) (stage : ℕ) (transit : Bool) (csg nsg tsih : ℕ) (text : List ℕ) → differs x q ≡ false
+    → begun stage (q .isid) (q .tsih) (q .cid) ≡ since x (answered stage transit csg nsg tsih text) q
+since-go atStart q stage transit csg nsg tsih text e = refl
+since-go (begun was isid tsih₁ cid) q stage transit csg nsg tsih text e =
+    let w = none-go (eqb (q .isid) isid) (eqb (q .tsih) tsih₁) (eqb (q .cid) cid) e in
+    let a : q .isid ≡ isid = eqb-true _ _ (w .0) in
+    let b : q .tsih ≡ tsih₁ = eqb-true _ _ (w .1) in
+    let c : q .cid ≡ cid = eqb-true _ _ (w .2) in
+    λ i. begun stage (a i) (b i) (c i)
 
-own-of : (q : Login) (l : LoginBook) (d g : List ℕ) (a : Answer) → q .continues ≡ false → accepted a ≡ true → judgedOf (R.Login q) l d g a ≡ pairs 64 (blockIn l d g)
-own-of q l d g a c e = let n : not (q .continues) ≡ true = ap not c in rw (e, n)
+over-go : (t : Bool) (nsg : ℕ) (o : Bool) → o ≡ false → (t && eqb nsg 3) ≡ ((false || (t && eqb (pick t nsg 0) 3)) || o)
+over-go true nsg o e = rw e (sym (or-none (eqb nsg 3)))
+over-go false nsg o e = sym e
 
-own-in : (r : Read.Answer) (p : Pdu) (q : Login) (l : LoginBook) (pdu g : List ℕ) (a : Answer) → r ≡ Read.got p → p .request ≡ R.Login q → q .continues ≡ false → accepted a ≡ true
-    → judgedIn r l pdu g a ≡ pairs 64 (blockIn l (dataOf pdu p) g)
-own-in r p q l pdu g a e f c x =
-    ap (λ (y : Read.Answer). judgedIn y l pdu g a) e ∙ ap (λ (y : Request). judgedOf y l (dataOf pdu p) g a) f ∙ own-of q l (dataOf pdu p) g a c x
+module _ (past : List Event) (c : Call) where
+  abbrev now : LoginBook
+  now = bookIn past
 
--- the status of the first broken check is that of a check that is broken
-first-go : (P : ℕ → Type 0) (c : Check) (cs : List Check) (b : Bool) → c .broken ≡ b → ((d : Check) → List·Memᴰ d (c ∷ cs) → d .broken ≡ true → P (d .status))
-    → ((firstBroken cs ≡ 0 → ⊥) → P (firstBroken cs)) → (pick b (c .status) (firstBroken cs) ≡ 0 → ⊥) → P (pick b (c .status) (firstBroken cs))
-first-go P c cs true x k ih n = k c (List·Memᴰ·head refl) x
-first-go P c cs false x k ih n = ih n
+  left-gathered : (q : Login) (d : List ℕ) → Passes now c q d → q .continues ≡ true
+      → (let o = gatherStep now q d (c .gather) (c .text) in o .book ≡ bookIn (event c o ∷ past))
+  left-gathered q d r h =
+      let o = gatherStep now q d (c .gather) (c .text) in
+      let x : readAs (c .pdu) ≡ aLogin q d = r .reaches .reads in
+      same-book (o .book) (bookIn (event c o ∷ past)) (sym (r .reaches .going))
+      (since-go (phaseIn past) q (q .csg) false (q .csg) 0 (q .tsih) [] (check-kept now q (length d) (c .live) (r .kept) 2)
+      ∙ ap (onLogin (λ q₁ d₁. since (phaseIn past) (o .answer) q₁) (phaseIn past)) (sym x))
+      (ap (λ (y : Bool). not y || judgedIn past) (sym h) ∙ ap (onLogin (λ q₁ d₁. not (q₁ .continues) || judgedIn past) (judgedIn past)) (sym x))
+      (ap (keysAfter (q .csg) (eqb (q .tsih) 0) (c .ours) (keysIn past)) (sym (offers-in now c q d r o refl ∙ here _ _ _ h))
+      ∙ ap (onLogin (λ q₁ d₁. keysAfter (q₁ .csg) (eqb (q₁ .tsih) 0) (c .ours) (keysIn past) (offersOf (gatheredIn past) (event c o))) (keysIn past)) (sym x))
+      (sym (here _ _ _ h) ∙ ap (onLogin (λ q₁ d₁. pick (q₁ .continues) (gatheredIn past + length d₁) 0) (gatheredIn past)) (sym x))
 
-broken-go : (P : ℕ → Type 0) (cs : List Check) → ((c : Check) → List·Memᴰ c cs → c .broken ≡ true → P (c .status)) → (firstBroken cs ≡ 0 → ⊥) → P (firstBroken cs)
-broken-go P [] k n = absurd (n refl)
-broken-go P (c ∷ cs) k n = first-go P c cs (c .broken) refl k (broken-go P cs (λ d i y. k d (List·Memᴰ·tail i) y)) n
+  left-judged : (q : Login) (d : List ℕ) → Unrefused now c q d
+      → (let o = withGather (c .gather) (areaThen now c d) (accept q (c .new) (keysThen now c q d) (textThen now c q d) (c .text)) in
+      o .book ≡ bookIn (event c o ∷ past))
+  left-judged q d r =
+      let o = withGather (c .gather) (areaThen now c d) (accept q (c .new) (keysThen now c q d) (textThen now c q d) (c .text)) in
+      let s = r .formed .passes in
+      let w = r .formed .whole in
+      let x : readAs (c .pdu) ≡ aLogin q d = s .reaches .reads in
+      same-book (o .book) (bookIn (event c o ∷ past)) (over-go (q .transit) (q .nsg) (overIn past) (s .reaches .going))
+      (since-go (phaseIn past) q (stageAfter q) (q .transit) (q .csg) (pick (q .transit) (q .nsg) 0) (handle q (c .new)) (textThen now c q d)
+      (check-kept now q (length d) (c .live) (s .kept) 2)
+      ∙ ap (onLogin (λ q₁ d₁. since (phaseIn past) (o .answer) q₁) (phaseIn past)) (sym x))
+      (ap (λ (y : Bool). not y || judgedIn past) (sym w) ∙ ap (onLogin (λ q₁ d₁. not (q₁ .continues) || judgedIn past) (judgedIn past)) (sym x))
+      (ap (keysAfter (q .csg) (eqb (q .tsih) 0) (c .ours) (keysIn past)) (sym (offers-in now c q d s o refl ∙ skip _ _ _ _ w refl))
+      ∙ ap (onLogin (λ q₁ d₁. keysAfter (q₁ .csg) (eqb (q₁ .tsih) 0) (c .ours) (keysIn past) (offersOf (gatheredIn past) (event c o))) (keysIn past)) (sym x))
+      (sym (skip _ _ _ _ w refl) ∙ ap (onLogin (λ q₁ d₁. pick (q₁ .continues) (gatheredIn past + length d₁) 0) (gatheredIn past)) (sym x))
 
-step-go : (a b : Bool) → (a && not b) ≡ false → a ≡ true → b ≡ true
-step-go true true e h = refl
-step-go true false e h = true-false e
-step-go false b e h = false-true h
+  left-of : Decided now c → stepOf now c .book ≡ bookIn (event c (stepOf now c) ∷ past)
+  left-of (refuses n s r) = subst (λ (o : Outcome). o .book ≡ bookIn (event c o ∷ past)) (sym (by-refusal now c n s r)) (left-refused (eqb n 6) past)
+  left-of (accepts (gathers q d r h)) = subst (λ (o : Outcome). o .book ≡ bookIn (event c o ∷ past)) (sym (by-gathering now c q d r h)) (left-gathered q d r h)
+  left-of (accepts (judges q d r n)) = subst (λ (o : Outcome). o .book ≡ bookIn (event c o ∷ past)) (sym (by-judging now c q d r n)) (left-judged q d r)
 
--- ---- the four outcomes
+  left-by : stepOf now c .book ≡ bookIn (event c (stepOf now c) ∷ past)
+  left-by = left-of (decided now c)
 
-module _ (l : LoginBook) (pdu : List ℕ) (live : ℕ) (ours g t : List ℕ) where
-  stays : (n : ℕ) → eqb n 6 ≡ false → Promised l pdu live ours g t (refuse l n g t)
-  stays n e = record {
-    full-feature = &&-false (l .over) ∙ sym (&&-false (asks (readPdu limits pdu)));
-    full-stage = λ h. false-true (sym (&&-false (l .over)) ∙ h);
-    bytes-stay = λ _. (refl, refl);
-    login-stays = λ _ _. refl;
-    ended-by = λ h. over-go (l .over) (eqb n 6) h e;
-    caused = λ s h p q r f. absurd (let z : n ≡ 6 = cc in eqb-false n 6 e z);
-    text-front = refl;
-    text-short = omega arith;
-    values = λ m h. rw (none-in (readPdu limits pdu) l pdu g (refused n 0) refl);
-  }
+-- ---- a login that is over
 
-  -- the one Login that the PDU is read as
-  one-login : (p p₁ : Pdu) (q q₁ : Login) → readPdu limits pdu ≡ Read.got p → readPdu limits pdu ≡ Read.got p₁ → p .request ≡ R.Login q → p₁ .request ≡ R.Login q₁
-      → (s : ℕ) → Cause l q (length (dataOf pdu p)) live ours (blockIn l (dataOf pdu p) g) s → Cause l q₁ (length (dataOf pdu p₁)) live ours (blockIn l (dataOf pdu p₁) g) s
-  one-login p p₁ q q₁ e e₁ f f₁ s c =
-      let a : p ≡ p₁ = cc in
-      let b : q ≡ q₁ = cc in
-      subst (λ (x : Login). Cause l x (length (dataOf pdu p₁)) live ours (blockIn l (dataOf pdu p₁) g) s) b
-      (subst (λ (x : Pdu). Cause l q (length (dataOf pdu x)) live ours (blockIn l (dataOf pdu x) g) s) a c)
+accepts-going : (b : LoginBook) (c : Call) → Accepts b c → b .over ≡ false
+accepts-going b c (gathers q d r h) = r .reaches .going
+accepts-going b c (judges q d r n) = r .formed .passes .reaches .going
 
-  module _ (p : Pdu) (q : Login) (e : readPdu limits pdu ≡ Read.got p) (f : p .request ≡ R.Login q) where
-    fails : (s : ℕ) → Cause l q (length (dataOf pdu p)) live ours (blockIn l (dataOf pdu p) g) s → Promised l pdu live ours g t (fail l s g t)
-    fails s c = record {
-      full-feature = sym (&&-false (asks (readPdu limits pdu)));
-      full-stage = λ h. false-true h;
-      bytes-stay = λ _. (refl, refl);
-      login-stays = λ _ h. true-false h;
-      ended-by = λ h. refl;
-      caused = λ s₁ h p₁ q₁ r f₁. let z : s ≡ s₁ = cc in subst (λ (x : ℕ). Cause l q₁ (length (dataOf pdu p₁)) live ours (blockIn l (dataOf pdu p₁) g) x) z (one-login p p₁ q q₁ e r f f₁ s c);
-      text-front = refl;
-      text-short = omega arith;
-      values = λ m h. rw (none-in (readPdu limits pdu) l pdu g (refused 6 s) refl);
-    }
+-- every answer then is BUFFER or CLOSED
+refused-over : (b : LoginBook) (c : Call) (n s : ℕ) → b .over ≡ true → Refuses b c n s → (refused n s ≡ refused 1 0) ⊎ (refused n s ≡ refused 8 0)
+refused-over b c n s o (buffer x) = inl refl
+refused-over b c n s o (closed l x) = inr refl
+refused-over b c n s o (unreadable m l x e) = false-true (sym x ∙ o)
+refused-over b c n s o (no-handle q d l x e z) = false-true (sym x ∙ o)
+refused-over b c n s o (check-broken q d r k t x h) = false-true (sym (r .going) ∙ o)
+refused-over b c n s o (form-broken q d r e f) = false-true (sym (r .reaches .going) ∙ o)
+refused-over b c n s o (pair-refused q d r before p later status e h x) = false-true (sym (r .passes .reaches .going) ∙ o)
+refused-over b c n s o (names-lacking q d r e f) = false-true (sym (r .formed .passes .reaches .going) ∙ o)
 
-    gathers : q .continues ≡ true → Promised l pdu live ours g t (gatherStep l q (dataOf pdu p) g t)
-    gathers c = record {
-      full-feature = sym (&&-false (asks (readPdu limits pdu)));
-      full-stage = λ h. false-true h;
-      bytes-stay = λ h. true-false h;
-      login-stays = λ h _. true-false h;
-      ended-by = λ h. refl;
-      caused = λ s₁ h p₁ q₁ r f₁. absurd (let z : _≡_ {A = ℕ} 0 1 = cc in omega arith);
-      text-front = refl;
-      text-short = omega arith;
-      values = λ n h. rw (e, f, c);
-    }
+answer-over : (b : LoginBook) (c : Call) → b .over ≡ true → Decided b c → (stepOf b c .answer ≡ refused 1 0) ⊎ (stepOf b c .answer ≡ refused 8 0)
+answer-over b c o (refuses n s r) =
+    let e = ap (λ (x : Outcome). x .answer) (by-refusal b c n s r) in
+    ⊎-elim (λ z. inl (e ∙ z)) (λ z. inr (e ∙ z)) (refused-over b c n s o r)
+answer-over b c o (accepts a) = false-true (sym (accepts-going b c a) ∙ o)
 
-    answers : (new : ℕ) (s : Keys) (a h : List ℕ) → q .continues ≡ false → (q .transit ≡ true → permitted (inStage (q .csg)) (q .nsg) ≡ true) → formed 64 (blockIn l (dataOf pdu p) g) ≡ true
-        → judge (q .csg) (eqb (q .tsih) 0) ours (l .keys) (startText (l .judged)) (pairs 64 (blockIn l (dataOf pdu p) g)) ≡ went s a
-        → Promised l pdu live ours g t (withGather g h (accept q new s a t))
-    answers new s a h c step w j = record {
-      full-feature = rw (e, f) (entered-go (q .transit) (eqb (q .nsg) 3) (q .csg) (q .nsg) refl step);
-      full-stage = stage-go (q .transit) (eqb (q .nsg) 3) (q .csg) (q .nsg) refl;
-      bytes-stay = λ x. true-false x;
-      login-stays = λ x _. true-false x;
-      ended-by = λ _. sym (&&-true (q .transit && eqb (q .nsg) 3));
-      caused = λ s₁ x p₁ q₁ r f₁. absurd (let z : _≡_ {A = ℕ} 0 1 = cc in omega arith);
-      text-front = refl;
-      text-short = omega (arith, judged-length (q .csg) (eqb (q .tsih) 0) ours 64 (l .keys) (startText (l .judged)) (blockIn l (dataOf pdu p) g) s a w j, start-length (l .judged));
-      values = λ n x.
-          judged-value (q .csg) (eqb (q .tsih) 0) ours (l .keys) (startText (l .judged)) (pairs 64 (blockIn l (dataOf pdu p) g)) s a j n x
-          ∙ ap (valueAfter n (l .keys .value n)) (sym (own-in (readPdu limits pdu) p q l pdu g (accept q new s a t .answer) e f c refl));
-    }
+-- ---- stages, and full feature phase
 
-  -- ---- the walk
+fits-full : (from : Stage) (csg : ℕ) → csgFits from csg ≡ true → isFull from ≡ false → eqb csg 3 ≡ false
+unfolding permitted
+fits-full start csg e f = ne-eqb csg 3 (λ z. false-true (ap (λ (x : ℕ). eqb x 0 || eqb x 1) (sym z) ∙ e))
+fits-full (inStage stage) csg e f = ap (λ (x : ℕ). eqb x 3) (eqb-true csg stage e) ∙ f
 
-  choose : (b : Bool) (x y : Outcome) → (b ≡ true → Promised l pdu live ours g t x) → (b ≡ false → Promised l pdu live ours g t y) → Promised l pdu live ours g t (pick b x y)
-  choose true x y f h = f refl
-  choose false x y f h = h refl
+-- the stage after an answer is 3 exactly when it enters full feature phase, x before it and over after it
+full-go : (a : Answer) (from : Stage) (over x : Bool) → goesOn from a ≡ true → isFull from ≡ x → (accepted a ≡ true → x ≡ false)
+    → (accepted a ≡ true → over ≡ names3 a)
+    → isFull (stageThen from a) ≡ ((over && accepted a) || x)
+full-go (refused n s) from over x g f k o = f ∙ sym (ap (λ (y : Bool). y || x) (&&-false over))
+full-go (answered stage true csg nsg tsih text) from over x g f k o =
+    ap (λ (y : ℕ). eqb y 3) (eqb-true stage nsg (&&-right (permitted (inStage csg) nsg) _ (&&-right (csgFits from csg) _ g)))
+    ∙ sym (either-go over x (eqb nsg 3) (o refl) (k refl))
+full-go (answered stage false csg nsg tsih text) from over x g f k o =
+    ap (λ (y : ℕ). eqb y 3) (eqb-true stage csg (&&-right (csgFits from csg) _ g))
+    ∙ fits-full from csg (&&-left _ _ g) (f ∙ k refl)
+    ∙ sym (either-go over x false (o refl) (k refl))
 
-  choose-text : (b : Bool) (h : List ℕ) (x y : Texted) → (b ≡ true → Promised l pdu live ours g t (withGather g h x)) → (b ≡ false → Promised l pdu live ours g t (withGather g h y))
-      → Promised l pdu live ours g t (withGather g h (pick b x y))
-  choose-text true h x y f k = f refl
-  choose-text false h x y f k = k refl
+-- ---- what the list says of its stage and keys
 
-  module _ (p : Pdu) (q : Login) (e : readPdu limits pdu ≡ Read.got p) (f : p .request ≡ R.Login q) where
-    broken : (statusOf l q (length (dataOf pdu p)) live ≡ 0 → ⊥) → Cause l q (length (dataOf pdu p)) live ours (blockIn l (dataOf pdu p) g) (statusOf l q (length (dataOf pdu p)) live)
-    unfolding statusOf
-    broken n = broken-go (λ (s : ℕ). Cause l q (length (dataOf pdu p)) live ours (blockIn l (dataOf pdu p) g) s) (checks l q (length (dataOf pdu p)) live) (λ c i x. check-broken c i x) n
+record Good (past : List Event) : Type 0 where
+  pub stage : isFull (stageOf (phaseIn past)) ≡ entered past
+  pub going : overIn past ≡ false → entered past ≡ false
+  pub values : (n : List ℕ) → keyOf n < 12 → keysIn past .value n ≡ valueAfter n (rowAt (keyOf n) .standard) (offersIn past)
+  pub came : (n : List ℕ) → keysIn past .came n ≡ (not (eqb (keyOf n) 28) && isOffered n (offersIn past))
 
-    walk-result : (new : ℕ) (b h : List ℕ) → blockIn l (dataOf pdu p) g ≡ b → q .continues ≡ false → (q .transit ≡ true → permitted (inStage (q .csg)) (q .nsg) ≡ true) → formed 64 b ≡ true
-        → (r : Result) → judge (q .csg) (eqb (q .tsih) 0) ours (l .keys) (startText (l .judged)) (pairs 64 b) ≡ r
-        → Promised l pdu live ours g t (withGather g h (finish l q new t r))
-    walk-result new b h i c step w (stopped s) j =
-        let z = judged-stop (q .csg) (eqb (q .tsih) 0) ours (l .keys) (startText (l .judged)) (pairs 64 b) s j in
-        fails p q e f s (pair-refused (z .first) (z .pair) (z .rest) (z .keys) (z .text) s (ap (pairs 64) i ∙ z .split) (z .gone) (z .refused))
-    walk-result new b h i c step w (went s a) j =
-        choose-text (not (l .judged) && not (named s)) h _ _
-        (λ n. fails p q e f 0x0207 (names-lacking s a (rw i j) (not-true _ (&&-left _ _ n)) (not-true _ (&&-right (not (l .judged)) _ n))))
-        (λ n. answers p q e f new s a h c step (rw i w) (rw i j))
-
-    walk-text : (new : ℕ) (b h : List ℕ) → blockIn l (dataOf pdu p) g ≡ b → q .continues ≡ false → (q .transit ≡ true → permitted (inStage (q .csg)) (q .nsg) ≡ true)
-        → Promised l pdu live ours g t (withGather g h (textStep l q new ours b t))
-    unfolding textStep
-    walk-text new b h i c step =
-        choose-text (formed 64 b) h _ _
-        (λ w. walk-result new b h i c step w (judge (q .csg) (eqb (q .tsih) 0) ours (l .keys) (startText (l .judged)) (pairs 64 b)) refl)
-        (λ w. fails p q e f 0x0200 (form-broken (ap (formed 64) i ∙ w)))
-
-    walk-request : (new : ℕ) → Promised l pdu live ours g t (requestStep l q (dataOf pdu p) live new ours g t)
-    unfolding requestStep judgeStep
-    walk-request new =
-        choose (eqb new 0) _ _ (λ _. stays 3 refl)
-        (λ _. choose (not (eqb (statusOf l q (length (dataOf pdu p)) live) 0)) _ _
-        (λ n. fails p q e f _ (broken (eqb-false _ 0 (not-true _ n))))
-        (λ n. let kept = status-kept l q (length (dataOf pdu p)) live (eqb-true _ 0 (not-false _ n)) in
-        let step : q .transit ≡ true → permitted (inStage (q .csg)) (q .nsg) ≡ true = λ y. step-go (q .transit) (permitted (inStage (q .csg)) (q .nsg)) (kept 5) y in
-        choose (q .continues) _ _ (λ c. gathers p q e f c)
-        (λ c. choose (eqb (l .gathered) 0) _ _
-        (λ z. walk-text new (dataOf pdu p) g (here _ _ _ z) c step)
-        (λ z. walk-text new (take (l .gathered) g ++ dataOf pdu p) (joined g (l .gathered) (dataOf pdu p)) (past _ _ _ _ z refl) c step))))
-
-  walk-kind : (new : ℕ) (p : Pdu) (r : Request) → readPdu limits pdu ≡ Read.got p → p .request ≡ r → Promised l pdu live ours g t (kindStep r l (dataOf pdu p) live new ours g t)
-  walk-kind new p (R.NopOut x) e f = stays 3 refl
-  walk-kind new p (R.ScsiCommand x) e f = stays 3 refl
-  walk-kind new p (R.TaskManagement x) e f = stays 3 refl
-  walk-kind new p (R.Login q) e f = walk-request p q e f new
-  walk-kind new p (R.Logout x) e f = stays 3 refl
-  walk-kind new p (R.Snack x) e f = stays 3 refl
-
-  walk-read : (new : ℕ) (r : Read.Answer) → readPdu limits pdu ≡ r → Promised l pdu live ours g t (readStep r l pdu live new ours g t)
-  walk-read new (Read.refused n) e = stays n (ne-eqb n 6 (λ z. reading limits pdu (e ∙ ap Read.refused z)))
-  walk-read new (Read.got p) e = walk-kind new p (p .request) e refl
-
-  promised : (new : ℕ) → Promised l pdu live ours g t (loginStep l pdu live new ours g t)
-  unfolding loginStep
-  promised new =
-      choose (ltb (length g) 8192) _ _ (λ _. stays 1 refl)
-      (λ _. choose (ltb (length t) 8192) _ _ (λ _. stays 1 refl)
-      (λ _. choose (l .over) _ _ (λ _. stays 8 refl)
-      (λ _. walk-read new (readPdu limits pdu) refl)))
-
--- ---- a whole login
+good-start : Good []
+unfolding noneCame
+good-start = record { stage = refl; going = λ _. refl; values = λ n h. refl; came = λ n. sym (&&-false (not (eqb (keyOf n) 28))) }
 
 value-append : (n : List ℕ) (x : ℕ) (ps qs : List Pair) → valueAfter n x (ps ++ qs) ≡ valueAfter n (valueAfter n x ps) qs
 value-append n x [] qs = refl
 value-append n x (p ∷ ps) qs = value-append n (pick (same n (p .name)) (taken x (settling (rowAt (keyOf n)) (p .value))) x) ps qs
 
-history-from : (l : LoginBook) (cs : List Call) (n : List ℕ) → keyOf n < 12 → loginAfter l cs .keys .value n ≡ valueAfter n (l .keys .value n) (offersIn l cs)
-history-from l [] n h = refl
-history-from l (c ∷ cs) n h =
-    let o = stepOf l c in
-    let w = promised l (c .pdu) (c .live) (c .ours) (c .gather) (c .text) (c .new) in
-    history-from (o .book) cs n h
-    ∙ ap (λ (x : ℕ). valueAfter n x (offersIn (o .book) cs)) (w .values n h)
-    ∙ sym (value-append n (l .keys .value n) (judgedIn (readPdu limits (c .pdu)) l (c .pdu) (c .gather) (o .answer)) (offersIn (o .book) cs))
+or-assoc : (a b c : Bool) → ((a || b) || c) ≡ (a || (b || c))
+or-assoc true b c = refl
+or-assoc false b c = refl
+
+offered-append : (n : List ℕ) (ps qs : List Pair) → isOffered n (ps ++ qs) ≡ (isOffered n ps || isOffered n qs)
+offered-append n [] qs = refl
+offered-append n (p ∷ ps) qs =
+    ap (λ (x : Bool). same n (p .name) || x) (offered-append n ps qs)
+    ∙ sym (or-assoc (same n (p .name)) (isOffered n ps) (isOffered n qs))
+
+came-go : (k u v : Bool) → ((k && v) || (k && u)) ≡ (k && (u || v))
+came-go true true true = refl
+came-go true true false = refl
+came-go true false true = refl
+came-go true false false = refl
+came-go false u v = refl
+
+over-named : (a : Answer) (l o : Bool) → l ≡ ((isSix a || names3 a) || o) → o ≡ false → accepted a ≡ true → l ≡ names3 a
+over-named (refused n s) l o e f g = false-true g
+over-named (answered stage transit csg nsg tsih text) l o e f g = e ∙ ap (λ (x : Bool). (transit && eqb nsg 3) || x) f ∙ or-none (transit && eqb nsg 3)
+
+or-right : (a b : Bool) → (a || b) ≡ false → b ≡ false
+or-right true b e = false-true (sym e)
+or-right false b e = e
+
+module _ (past : List Event) (g : Good past) (c : Call) where
+  abbrev this : Event
+  this = event c (stepOf (bookIn past) c)
+
+  says : Sentences past this
+  says =
+      let w = promised (bookIn past) c in
+      let l = left-by past c in
+      let going : accepted (this .answer) ≡ true → overIn past ≡ false = λ a. accepts-going (bookIn past) c (w .answers .0 a) in
+      record {
+        request = w;
+        left = l;
+        full-stage = ap isFull (w .stage)
+            ∙ full-go (this .answer) (stageOf (phaseIn past)) (this .left .over) (entered past) (w .step) (g .stage) (λ a. g .going (going a))
+            (λ a. over-named (this .answer) (this .left .over) (overIn past) (ap (λ (x : LoginBook). x .over) l) (going a) a);
+        over = λ o. answer-over (bookIn past) c o (decided (bookIn past) c);
+        history = λ n h.
+            w .values n h
+            ∙ ap (λ (x : ℕ). valueAfter n x (offersOf (gatheredIn past) this)) (g .values n h)
+            ∙ sym (value-append n (rowAt (keyOf n) .standard) (offersIn past) (offersOf (gatheredIn past) this));
+        came = λ n.
+            w .came n
+            ∙ ap (λ (x : Bool). (not (eqb (keyOf n) 28) && isOffered n (offersOf (gatheredIn past) this)) || x) (g .came n)
+            ∙ came-go (not (eqb (keyOf n) 28)) (isOffered n (offersIn past)) (isOffered n (offersOf (gatheredIn past) this))
+            ∙ ap (λ (x : Bool). not (eqb (keyOf n) 28) && x) (sym (offered-append n (offersIn past) (offersOf (gatheredIn past) this)));
+      }
+
+  good-then : Good (this ∷ past)
+  good-then =
+      let s = says in
+      let l : bookIn (this ∷ past) ≡ this .left = sym (s .left) in
+      record {
+        stage = ap (λ (x : LoginBook). isFull (stageOf (x .phase))) l ∙ s .full-stage;
+        going = λ o.
+            ap (λ (x : Bool). (x && accepted (this .answer)) || entered past) (ap (λ (x : LoginBook). x .over) (s .left) ∙ o)
+            ∙ g .going (or-right (isSix (this .answer) || names3 (this .answer)) (overIn past) o);
+        values = λ n h. ap (λ (x : LoginBook). x .keys .value n) l ∙ s .history n h;
+        came = λ n. ap (λ (x : LoginBook). x .keys .came n) l ∙ s .came n;
+      }
+
+each-says : (past : List Event) → Good past → (cs : List Call) → Each Sentences past (eventsOf (bookIn past) cs)
+each-says past g [] = tt
+each-says past g (c ∷ cs) =
+    let e = this past g c in
+    (says past g c, subst (λ (b : LoginBook). Each Sentences (e ∷ past) (eventsOf b cs)) (sym (left-by past c)) (each-says (e ∷ past) (good-then past g c) cs))
+
+-- ---- the list whole
+
+once-over : (b : LoginBook) (c : Call) → b .over ≡ true → (enters (event c (stepOf b c)) ≡ false) × (stepOf b c .book .over ≡ true)
+once-over b c o =
+    let w = promised b c in
+    let r : (accepted (stepOf b c .answer) ≡ false) × (isSix (stepOf b c .answer) ≡ false) =
+    ⊎-elim (λ e. (ap accepted e, ap isSix e)) (λ e. (ap accepted e, ap isSix e)) (answer-over b c o (decided b c)) in
+    let o₁ = stepOf b c .book .over in
+    (ap (λ (x : Bool). o₁ && x) (r .0) ∙ &&-false o₁, ap (λ (x : LoginBook). x .over) (w .login-stays (r .0) (r .1)) ∙ o)
+
+none-over : (b : LoginBook) (cs : List Call) → b .over ≡ true → entries (eventsOf b cs) ≡ 0
+none-over b [] o = refl
+none-over b (c ∷ cs) o = let w = once-over b c o in skip _ _ _ _ (w .0) (none-over (stepOf b c .book) cs (w .1))
+
+once-go : (x : Bool) (n : ℕ) → (x ≡ true → n ≡ 0) → n ≤ 1 → pick x (suc n) n ≤ 1
+once-go true n h k = omega (arith, h refl)
+once-go false n h k = k
+
+once : (b : LoginBook) (cs : List Call) → entries (eventsOf b cs) ≤ 1
+once b [] = omega arith
+once b (c ∷ cs) =
+    let o = stepOf b c in
+    once-go (enters (event c o)) (entries (eventsOf (o .book) cs)) (λ e. none-over (o .book) cs (&&-left _ _ e)) (once (o .book) cs)
+
+path : (b : LoginBook) (cs : List Call) → isPath (stageOf (b .phase)) (eventsOf b cs) ≡ true
+path b [] = refl
+path b (c ∷ cs) =
+    let w = promised b c in
+    both-go _ _ (w .step) (ap (λ (x : Stage). isPath x (eventsOf (stepOf b c .book) cs)) (sym (w .stage)) ∙ path (stepOf b c .book) cs)
 
 stays-go : (b : Bool) (n m : List ℕ) (x y : ℕ) → same n m ≡ b → (m ≡ n → ⊥) → pick b y x ≡ x
 stays-go true n m x y e d = absurd (d (sym (same-eq n m e)))
@@ -246,9 +277,13 @@ until n x (p ∷ ps) d =
     ap (λ (y : ℕ). valueAfter n y ps) (stays-go (same n (p .name)) n (p .name) x _ refl (d p (List·Memᴰ·head refl)))
     ∙ until n x ps (λ r i. d r (List·Memᴰ·tail i))
 
-history : (cs : List Call) (n : List ℕ) → keyOf n < 12 → loginAfter freshBook cs .keys .value n ≡ valueAfter n (rowAt (keyOf n) .standard) (offersIn freshBook cs)
-unfolding freshBook noneCame
-history cs n h = history-from freshBook cs n h
-
-pub demand : Demand
-demand = record { step = λ l pdu live new ours g t. promised l pdu live ours g t new; history = history; until-offered = until; range = settled-in }
+pub demand2-booked : (cs : List Call) → Demand2 (eventsOf freshBook cs)
+unfolding freshBook
+demand2-booked cs = record {
+  each = each-says [] good-start cs;
+  once = once freshBook cs;
+  path = path freshBook cs;
+  steps = λ from to. (step-is from to, step-of from to);
+  until-offered = until;
+  range = settled-in;
+}

@@ -1,71 +1,76 @@
--- What the definitions of a login promise whoever reads them (demand 2): stated here, proved in proofs/Demand.
-use Prim.Native.Nat.{ℕ, _<_, _≤_}
+-- Demand 2 of the login phase, part by part, of a list of requests and answers from a fresh login. Which rule refuses a request, and what it is answered
+-- otherwise, stands in Rules; what a list of events says by itself, in Events. The theorem that gives it, for every list of calls of the function
+-- itself, is `demand2` in login/proofs/Tied.
+use Prim.Native.Nat.{ℕ, suc, _<_, _≤_}
 use mathlib.Core.Bool.{Bool, true, false, not, _&&_, _||_}
 use mathlib.Core.Path.{_≡_}
 use mathlib.Core.List.{List, [], _∷_, _++_, List·Memᴰ}
-use lib.ListN.{length, getD, take, drop}
+use mathlib.Core.Logic.{_↔_, _⊎_}
+use lib.ListN.{length, drop}
 use lib.Dec.{eqb}
-use Rattle.request_header.specs.Request.{readPdu, limits, dataOf}
-use Rattle.request_header.specs.Request as Read
-use Rattle.request_header.specs.Kind.{ifLogin}
 use Rattle.request_header.specs.declared.Login.{Login}
-use Rattle.request_header.specs.declared.Pdu.{Pdu}
-use Rattle.request_header.specs.declared.Request.{Request}
-use Rattle.request_header.specs.declared.Request.the-variants as R
 use Rattle.text.specs.Text.{pick, same}
-use Rattle.text_block.specs.Block.{Pair, formed, pairs}
+use Rattle.text_block.specs.Block.{Pair}
 use Rattle.key_table.specs.Table.{keyOf, rowAt}
 use Rattle.key_values.specs.Settle.{settling, In}
 use Rattle.key_values.specs.declared.value.Reply.{Reply}
 use Rattle.key_values.specs.declared.value.Judgement.{Judgement}
 use Rattle.key_values.specs.declared.value.Judgement.the-variants as J
-use Rattle.login_book.specs.Keys.{Keys, named}
-use Rattle.login_book.specs.Book.{inStage, permitted, stageOf, LoginBook, freshBook}
-use Rattle.login_book.specs.Block.{judge, judgePair, went}
-use Rattle.login_book.specs.Login.{Answer, refused, answered, Outcome, Check, checks, startText, loginStep}
+use Rattle.login_book.specs.Book.{Stage, start, inStage, permitted, stageOf, LoginBook}
+use Rattle.login_book.specs.Login.{Answer, refused, answered}
+use Rattle.login_book.specs.Events.{Event, Reading, aLogin, unread, readAs, accepted, isSix, names3, textOf, overIn, offersOf, offersIn, bookIn}
+use Rattle.login_book.specs.Rules.{Permitted, Accepts, Refuses, HasFields, Gathers}
+
+-- ---- stages
+
+-- CSG is the stage; at start, one that a login may start in
+abbrev pub csgFits : Stage → ℕ → Bool
+csgFits start csg = permitted start csg
+csgFits (inStage stage) csg = eqb csg stage
+
+-- the stage after an answer
+abbrev pub stageThen : Stage → Answer → Stage
+stageThen from (refused n s) = from
+stageThen from (answered stage transit csg nsg tsih text) = inStage stage
+
+-- an answer goes on from a stage by permitted steps: its CSG is the stage, and with T set the step to NSG is permitted and NSG the stage after it
+abbrev pub goesOn : Stage → Answer → Bool
+goesOn from (refused n s) = true
+goesOn from (answered stage transit csg nsg tsih text) = csgFits from csg && pick transit (permitted (inStage csg) nsg && eqb stage nsg) (eqb stage csg)
+
+-- the stages of the answers are a path of permitted steps
+abbrev pub isPath : Stage → List Event → Bool
+isPath from [] = true
+isPath from (e ∷ es) = goesOn from (e .answer) && isPath (stageThen from (e .answer)) es
 
 -- ---- full feature phase
 
--- the answer names full feature phase: T set and NSG 3
-abbrev pub named3 : Answer → Bool
-named3 (refused n s) = false
-named3 (answered stage transit csg nsg tsih text) = transit && eqb nsg 3
+-- the stage that a request's step begins in: the login's, at start the request's CSG where a login may start in it
+abbrev pub stepFrom : Stage → ℕ → Stage
+stepFrom start csg = pick (permitted start csg) (inStage csg) start
+stepFrom (inStage stage) csg = inStage stage
 
--- the request names it by a permitted step: it is read as a Login with T set, NSG 3, and a CSG from which the step to 3 is permitted
-abbrev pub asksIn : Request → Bool
-asksIn = ifLogin (λ q. (q .transit && eqb (q .nsg) 3) && permitted (inStage (q .csg)) 3) false
+-- the request names it by a permitted step: it is read as a Login with T set and NSG 3, and from the stage the login is in the step to 3 is permitted
+abbrev pub asks3 : Stage → Reading → Bool
+asks3 stage (unread n) = false
+asks3 stage (aLogin q d) = (q .transit && eqb (q .nsg) 3) && permitted (stepFrom stage (q .csg)) 3
 
-abbrev pub asks : Read.Answer → Bool
-asks (Read.refused n) = false
-asks (Read.got p) = asksIn (p .request)
+-- it is entered: the login is over and was not refused
+abbrev pub enters : Event → Bool
+enters e = e .left .over && accepted (e .answer)
 
--- full feature phase is entered: the login is over and was not refused
-abbrev pub accepted : Answer → Bool
-accepted (refused n s) = false
-accepted (answered stage transit csg nsg tsih text) = true
+-- it was entered in one of these events; in how many
+abbrev pub entered : List Event → Bool
+entered [] = false
+entered (e ∷ es) = enters e || entered es
 
-abbrev pub enters : Outcome → Bool
-enters o = o .book .over && accepted (o .answer)
+abbrev pub entries : List Event → ℕ
+entries [] = 0
+entries (e ∷ es) = pick (enters e) (suc (entries es)) (entries es)
 
--- ---- what refuses
-
--- why a Login q whose block is x is refused with a status
-pub data Cause (b : LoginBook) (q : Login) (n live : ℕ) (ours x : List ℕ) : ℕ → Type 0 where
-  -- one of the checks of a request is broken
-  check-broken : (c : Check) → List·Memᴰ c (checks b q n live) → c .broken ≡ true → Cause b q n live ours x (c .status)
-  -- the block has not the form of a block
-  form-broken : formed 64 x ≡ false → Cause b q n live ours x 0x0200
-  -- a pair is refused, those before it are not
-  pair-refused : (ps : List Pair) (p : Pair) (rest : List Pair) (s : Keys) (t : List ℕ) (status : ℕ) → pairs 64 x ≡ ps ++ (p ∷ rest)
-      → judge (q .csg) (eqb (q .tsih) 0) ours (b .keys) (startText (b .judged)) ps ≡ went s t
-      → judgePair (q .csg) (eqb (q .tsih) 0) ours s p ≡ J.Refused status → Cause b q n live ours x status
-  -- the first judged block lacks a name
-  names-lacking : (s : Keys) (t : List ℕ) → judge (q .csg) (eqb (q .tsih) 0) ours (b .keys) (startText (b .judged)) (pairs 64 x) ≡ went s t
-      → b .judged ≡ false → named s ≡ false → Cause b q n live ours x 0x0207
-
--- the block that a request without C has judged: its own data d, after the gathered bytes if there are any
-abbrev pub blockIn : LoginBook → List ℕ → List ℕ → List ℕ
-blockIn b d g = pick (eqb (b .gathered) 0) d (take (b .gathered) g ++ d)
+abbrev pub isFull : Stage → Bool
+isFull start = false
+isFull (inStage stage) = eqb stage 3
 
 -- ---- settled values
 
@@ -80,70 +85,69 @@ abbrev pub valueAfter : List ℕ → ℕ → List Pair → ℕ
 valueAfter n x [] = x
 valueAfter n x (p ∷ ps) = valueAfter n (pick (same n (p .name)) (taken x (settling (rowAt (keyOf n)) (p .value))) x) ps
 
--- the pairs that a request's answer settles: none where it is refused, or gathered
-abbrev pub judgedOf : Request → LoginBook → List ℕ → List ℕ → Answer → List Pair
-judgedOf r b d g a = ifLogin (λ q. pick (accepted a && not (q .continues)) (pairs 64 (blockIn b d g)) []) [] r
+-- the key of this name is among the pairs
+abbrev pub isOffered : List ℕ → List Pair → Bool
+isOffered n [] = false
+isOffered n (p ∷ ps) = same n (p .name) || isOffered n ps
 
-abbrev pub judgedIn : Read.Answer → LoginBook → List ℕ → List ℕ → Answer → List Pair
-judgedIn (Read.refused n) b pdu g a = []
-judgedIn (Read.got p) b pdu g a = judgedOf (p .request) b (dataOf pdu p) g a
+-- ---- one request, on a login of which b is the book
 
--- ---- the promises of one request
-
-abbrev pub textOf : Answer → List ℕ
-textOf (refused n s) = []
-textOf (answered stage transit csg nsg tsih text) = text
-
-abbrev pub isSix : Answer → Bool
-isSix (refused n s) = eqb n 6
-isSix (answered stage transit csg nsg tsih text) = false
-
-pub record Promised (b : LoginBook) (pdu : List ℕ) (live : ℕ) (ours g t : List ℕ) (o : Outcome) : Type 0 where
-  -- full feature phase is entered exactly when request and answer both name it, by a permitted step; the stage is 3 then
-  pub full-feature : enters o ≡ (asks (readPdu limits pdu) && named3 (o .answer))
-  pub full-stage : enters o ≡ true → stageOf (o .book .phase) ≡ inStage 3
+pub record Promised (b : LoginBook) (e : Event) : Type 0 where
+  -- it is answered exactly when its PDU reads as a Login and no rule refuses
+  pub answers : (accepted (e .answer) ≡ true) ↔ Accepts b (e .call)
+  -- CSG, T, NSG, TSIH, stage and text as the rules say, and the gather area after it
+  pub fields : (q : Login) (d : List ℕ) → readAs (e .call .pdu) ≡ aLogin q d → HasFields b (e .call) q d (e .answer)
+  pub gathers : (q : Login) (d : List ℕ) → readAs (e .call .pdu) ≡ aLogin q d → accepted (e .answer) ≡ true → Gathers b (e .call) q d (e .gather)
+  -- it is refused exactly when a rule refuses, with that rule's number and, for 6, status; every earlier rule is kept then
+  pub refusals : (n s : ℕ) → (e .answer ≡ refused n s) ↔ Refuses b (e .call) n s
+  -- full feature phase is entered exactly when request and answer both name it, by a permitted step from the stage the login was in
+  pub full-feature : enters e ≡ (asks3 (stageOf (b .phase)) (readAs (e .call .pdu)) && names3 (e .answer))
+  -- the answer goes on by permitted steps, and the login's stage is the one that it shows
+  pub step : goesOn (stageOf (b .phase)) (e .answer) ≡ true
+  pub stage : stageOf (e .left .phase) ≡ stageThen (stageOf (b .phase)) (e .answer)
   -- a refusal leaves every lent byte; each but 6 leaves the login too
-  pub bytes-stay : accepted (o .answer) ≡ false → (o .gather ≡ g) × (o .text ≡ t)
-  pub login-stays : accepted (o .answer) ≡ false → isSix (o .answer) ≡ false → o .book ≡ b
+  pub bytes-stay : accepted (e .answer) ≡ false → (e .gather ≡ e .call .gather) × (e .text ≡ e .call .text)
+  pub login-stays : accepted (e .answer) ≡ false → isSix (e .answer) ≡ false → e .left ≡ b
   -- 6 ends the login, and nothing else does but full feature phase
-  pub ended-by : b .over ≡ false → o .book .over ≡ (isSix (o .answer) || enters o)
-  -- a login is refused only by a rule, whose status comes with it
-  pub caused : (s : ℕ) → o .answer ≡ refused 6 s → (p : Pdu) (q : Login) → readPdu limits pdu ≡ Read.got p → p .request ≡ R.Login q → Cause b q (length (dataOf pdu p)) live ours (blockIn b (dataOf pdu p) g) s
+  pub ended-by : b .over ≡ false → e .left .over ≡ (isSix (e .answer) || enters e)
   -- the answer's text stands at the front of the text output, what is behind it stays, and it never has more than 5,015 bytes
-  pub text-front : o .text ≡ textOf (o .answer) ++ drop (length (textOf (o .answer))) t
-  pub text-short : length (textOf (o .answer)) ≤ 5015
+  pub text-front : e .text ≡ textOf (e .answer) ++ drop (length (textOf (e .answer))) (e .call .text)
+  pub text-short : length (textOf (e .answer)) ≤ 5015
   -- a key's value in force changes by that key's own offers alone
-  pub values : (n : List ℕ) → keyOf n < 12 → o .book .keys .value n ≡ valueAfter n (b .keys .value n) (judgedIn (readPdu limits pdu) b pdu g (o .answer))
+  pub values : (n : List ℕ) → keyOf n < 12 → e .left .keys .value n ≡ valueAfter n (b .keys .value n) (offersOf (b .gathered) e)
+  -- and a known key came by its own offers alone
+  pub came : (n : List ℕ) → e .left .keys .came n ≡ ((not (eqb (keyOf n) 28) && isOffered n (offersOf (b .gathered) e)) || b .keys .came n)
 
 -- ---- a whole login
 
--- what a request is given, with what the lent areas hold at that call
-pub record Call : Type 0 where
-  pub pdu : List ℕ
-  pub live : ℕ
-  pub new : ℕ
-  pub ours : List ℕ
-  pub gather : List ℕ
-  pub text : List ℕ
+-- an event after those of past, the newest first
+pub record Sentences (past : List Event) (e : Event) : Type 0 where
+  -- the rules of one request, on the login that the list so far says
+  pub request : Promised (bookIn past) e
+  -- the login that it leaves is the one that the list says then
+  pub left : e .left ≡ bookIn (e ∷ past)
+  -- the stage is 3 exactly when full feature phase was entered
+  pub full-stage : isFull (stageOf (e .left .phase)) ≡ entered (e ∷ past)
+  -- after that, or after a 6, every answer is BUFFER or CLOSED
+  pub over : overIn past ≡ true → (e .answer ≡ refused 1 0) ⊎ (e .answer ≡ refused 8 0)
+  -- a key's value in force is what that key's own offers made of its standard value; a known key came exactly when it was offered
+  pub history : (n : List ℕ) → keyOf n < 12 → e .left .keys .value n ≡ valueAfter n (rowAt (keyOf n) .standard) (offersIn (e ∷ past))
+  pub came : (n : List ℕ) → e .left .keys .came n ≡ (not (eqb (keyOf n) 28) && isOffered n (offersIn (e ∷ past)))
 
-abbrev pub stepOf : LoginBook → Call → Outcome
-stepOf b c = loginStep b (c .pdu) (c .live) (c .new) (c .ours) (c .gather) (c .text)
+-- what holds of each event of a list, in the order of the requests, with those before it, the newest first
+abbrev pub Each : (List Event → Event → Type 0) → List Event → List Event → Type 0
+Each P past [] = Unit {0}
+Each P past (e ∷ es) = P past e × Each P (e ∷ past) es
 
--- the login after a list of calls, and the pairs that were settled in them
-abbrev pub loginAfter : LoginBook → List Call → LoginBook
-loginAfter b [] = b
-loginAfter b (c ∷ cs) = loginAfter (stepOf b c .book) cs
-
-abbrev pub offersIn : LoginBook → List Call → List Pair
-offersIn b [] = []
-offersIn b (c ∷ cs) = judgedIn (readPdu limits (c .pdu)) b (c .pdu) (c .gather) (stepOf b c .answer) ++ offersIn (stepOf b c .book) cs
-
-pub record Demand : Type 0 where
-  -- what every request's answer keeps to
-  pub step : (b : LoginBook) (pdu : List ℕ) (live new : ℕ) (ours g t : List ℕ) → Promised b pdu live ours g t (loginStep b pdu live new ours g t)
-  -- after any list of calls from a fresh login, a key's value in force is what that key's own offers made of its standard value
-  pub history : (cs : List Call) (n : List ℕ) → keyOf n < 12 → loginAfter freshBook cs .keys .value n ≡ valueAfter n (rowAt (keyOf n) .standard) (offersIn freshBook cs)
-  -- and without an offer of its own it stays
+-- Demand 2 of the events of a login from its start
+pub record Demand2 (es : List Event) : Type 0 where
+  pub each : Each Sentences [] es
+  -- full feature phase is entered at most once
+  pub once : entries es ≤ 1
+  -- the stages of the answers are a path of permitted steps from the start, and these steps are permitted and no other
+  pub path : isPath start es ≡ true
+  pub steps : (from : Stage) (to : ℕ) → (permitted from to ≡ true) ↔ Permitted from to
+  -- without an offer of its own a key's value stays
   pub until-offered : (n : List ℕ) (x : ℕ) (ps : List Pair) → ((p : Pair) → List·Memᴰ p ps → p .name ≡ n → ⊥) → valueAfter n x ps ≡ x
   -- a settled value is within its range
   pub range : (k : ℕ) → k < 12 → (v : List ℕ) (n : ℕ) (r : Reply) → settling (rowAt k) v ≡ J.Settles n r → In (rowAt k .low) (rowAt k .high) n
