@@ -113,6 +113,8 @@ enum drawbevel_response_kind {
     DRAWBEVEL_REJECT = 0x3f
 };
 
+/* A flag is 0 or 1. A value too wide for its field (a flag of 2, a CSG of 4, an ISID of 2^48) is FIELD, and a data length above 8,192 TOOLONG:
+ * nothing is cut. */
 struct drawbevel_nop_in {
     uint32_t data_segment_length;
     uint64_t lun;

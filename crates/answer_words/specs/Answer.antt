@@ -1,12 +1,8 @@
 -- A session's answer as four words: what came, and its values, 0 where it has none; and as one number, where it has one value at most.
 use Prim.Native.Nat.{ℕ, _%_, _/_, _^_}
-use mathlib.Core.Path.{_≡_}
 use mathlib.Core.List.{List, [], _∷_}
 use Rattle.window.specs.Book as W
-use Rattle.book.specs.Book.{Outputs, Call, send, Answer, refused, immediate, opened, window, sent, acknowledged, run, resent, numbers}
-use Rattle.session_state.specs.Agree.{State, Did}
-use Rattle.response_words.specs.declared.Made.{Made}
-use Rattle.response_words.specs.declared.Made.the-variants.{Known, Unknown}
+use Rattle.book.specs.Book.{Answer, refused, immediate, opened, window, sent, acknowledged, run, resent, numbers}
 
 -- the connection that a command came on; 4 where it has none
 abbrev pub originWord : W.Origin → ℕ
@@ -39,14 +35,3 @@ answerWords (numbers e m) = 32 ∷ e ∷ m ∷ 0 ∷ []
 -- an answer of one value at most, as one number: what came, and above its 32 bits the value
 abbrev pub packed : ℕ → List ℕ
 packed r = r % 2 ^ 32 ∷ r / 2 ^ 32 ∷ 0 ∷ 0 ∷ []
-
--- the contract of every call: it did as the session does, and the words are its answer's
-pub record Said (call : Call) (s : State) (w : List ℕ) (o : Outputs) (s' : State) : Type 0 where
-  pub answer : Answer
-  pub did : Did call s answer o s'
-  pub words : w ≡ answerWords answer
-
--- the contract of a send, by what its words are: words that are no response are FIELD, and change nothing
-unfoldable pub SaidSend : Made → (conn ticket : ℕ) → (out : Outputs) → State → List ℕ → Outputs → State → Type 0
-SaidSend (Known r) c t l s w o s' = Said (send c t r l) s w o s'
-SaidSend Unknown c t l s w o s' = (w ≡ answerWords (refused 3)) × (o ≡ l) × (s' ≡ s)

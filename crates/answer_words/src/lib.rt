@@ -13,6 +13,7 @@ ghost use Rattle.session_statuses.specs.Answer.{resendAnswer};
 ghost use Rattle.session_snack.specs.Answer.{snackAnswer};
 ghost use Rattle.refusal.specs.Refusal.{number};
 ghost use Rattle.window.specs.Agree.{originOf};
+ghost use Rattle.window.specs.Book as W;
 ghost use Rattle.answer_words.specs.Answer.{originWord, answerWords, packed};
 
 pub const DONE: u32 = 32;
@@ -84,6 +85,13 @@ pub fn handed_out(a: Taken) -> [u32; 4]
             origin,
         } => [COMMAND, number, ticket, origin_word(origin)],
     }
+}
+
+// The counts of a logout.
+pub fn logged_out(emptied: u32, voided: u32) -> [u32; 4]
+    ensures { λ w. ⌜ w ≡ answerWords (Answer.window (W.loggedOut emptied voided)) ⌝ }
+{
+    [DONE, emptied, voided, 0]
 }
 
 pub fn run(a: SnackAnswer) -> [u32; 4]

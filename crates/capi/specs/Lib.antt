@@ -1,2 +1,4 @@
 pub mod Pdu
 pub mod Given
+pub mod Session
+pub mod History

@@ -4,14 +4,19 @@ use answer_words::DONE;
 use answer_words::IMMEDIATE;
 use book::Given;
 use book::Opening;
+use field::HEADER_BYTES;
 use refusal::Refusal;
+use response_header::MAX_DATA;
 use response_header::Response;
-use response_words::Made;
+use response_words::FromWords;
 use response_words::response;
+use response_words::unfit_refusal;
 use session_commands::OfferAnswer;
 use session_commands::TakeAnswer;
 use session_connections::LogoutAnswer;
 use session_connections::OpenAnswer;
+use session_state::Reached;
+use session_state::reach;
 use session_statuses::AcknowledgeAnswer;
 use session_statuses::SendAnswer;
 use session_words::close;
@@ -20,14 +25,17 @@ use session_words::store;
 use session_words::store_conn;
 use session_words::store_ledger;
 use session_words::store_window;
+ghost use mathlib.Core.Path.{_≡_};
+ghost use mathlib.Core.List.{List};
+ghost use Prim.Native.Nat.{ℕ};
+ghost use lib.ListN.{length};
 ghost use Rattle.window.specs.Agree.{Commands, commands};
 ghost use Rattle.ledger.specs.Agree.{Statuses, statusesIn};
 ghost use Rattle.book.specs.Book.{Call, outputs, noOutputs};
-ghost use Rattle.session_state.specs.Agree.{state, IsFresh};
-ghost use Rattle.session_words.specs.State.{sessionOf};
-ghost use Rattle.answer_words.specs.Answer.{Said, SaidSend, packed};
+ghost use Rattle.answer_words.specs.Answer.{packed};
 ghost use Rattle.response_words.specs.ResponseWords.{responseOf};
 ghost use Rattle.capi.specs.Given.{openingOf, givenOf};
+ghost use Rattle.capi.specs.Session.{sessionWords, FreshWords, Said, SaidUnfit, sends, SaidBy};
 
 // Offers a whole PDU with its ticket on a connection.
 #[no_mangle]
@@ -42,9 +50,9 @@ pub extern "C" fn drawbevel_core_offer(
 ) -> u64
     ensures { λ r. ⌜ ((ss : Statuses)
         → Said (Call.offer conn ticket (now (pdu .entry)))
-        (state (sessionOf (now (n .entry)) (now (m .entry))) (commands (now (headers .entry)) (now (tickets .entry))) ss)
+        (sessionWords (now (n .entry)) (now (m .entry)) (commands (now (headers .entry)) (now (tickets .entry))) ss)
         (packed r) noOutputs
-        (state (sessionOf (now (n .exit)) (now (m .exit))) (commands (now (headers .exit)) (now (tickets .exit))) ss)) ⌝ }
+        (sessionWords (now (n .exit)) (now (m .exit)) (commands (now (headers .exit)) (now (tickets .exit))) ss)) ⌝ }
 {
     let s = load(n, m);
     let step = session_commands::offer(s, conn, ticket, pdu, headers, tickets);
@@ -72,9 +80,9 @@ pub extern "C" fn drawbevel_core_take(
 )
     ensures { λ _. ⌜ ((ss : Statuses)
         → Said (Call.take (outputs (now (out .entry))))
-        (state (sessionOf (now (n .entry)) (now (m .entry))) (commands (now (headers .entry)) (now (tickets .entry))) ss)
+        (sessionWords (now (n .entry)) (now (m .entry)) (commands (now (headers .entry)) (now (tickets .entry))) ss)
         (now (answer .exit)) (outputs (now (out .exit)))
-        (state (sessionOf (now (n .exit)) (now (m .exit))) (commands (now (headers .entry)) (now (tickets .entry))) ss)) ⌝ }
+        (sessionWords (now (n .exit)) (now (m .exit)) (commands (now (headers .entry)) (now (tickets .entry))) ss)) ⌝ }
 {
     let s = load(n, m);
     let step = session_commands::take(s, headers, tickets, out);
@@ -101,9 +109,9 @@ pub extern "C" fn drawbevel_core_open(
 ) -> u64
     ensures { λ r. ⌜ ((k : Commands) (ss : Statuses)
         → Said (Call.opening conn (openingOf «stat_sn»))
-        (state (sessionOf (now (n .entry)) (now (m .entry))) k ss)
+        (sessionWords (now (n .entry)) (now (m .entry)) k ss)
         (packed r) noOutputs
-        (state (sessionOf (now (n .exit)) (now (m .exit))) k ss)) ⌝ }
+        (sessionWords (now (n .exit)) (now (m .exit)) k ss)) ⌝ }
 {
     let s = load(n, m);
     let given = Opening { stat_sn: stat_sn };
@@ -127,9 +135,9 @@ pub extern "C" fn drawbevel_core_logout(
 )
     ensures { λ _. ⌜ ((k : Commands) (ss : Statuses)
         → Said (Call.logout conn reason)
-        (state (sessionOf (now (n .entry)) (now (m .entry))) k ss)
+        (sessionWords (now (n .entry)) (now (m .entry)) k ss)
         (now (answer .exit)) noOutputs
-        (state (sessionOf (now (n .exit)) (now (m .exit))) k ss)) ⌝ }
+        (sessionWords (now (n .exit)) (now (m .exit)) k ss)) ⌝ }
 {
     let s = load(n, m);
     let step = session_connections::logout(s, conn, reason);
@@ -146,7 +154,7 @@ pub extern "C" fn drawbevel_core_logout(
         } => {
             store_window(n, m, window);
             close(n, conn, closes);
-            *answer = [DONE, emptied, voided, 0];
+            *answer = answer_words::logged_out(emptied, voided);
         }
     }
 }
@@ -161,9 +169,9 @@ pub extern "C" fn drawbevel_core_acknowledge(
 ) -> u64
     ensures { λ r. ⌜ ((k : Commands) (ss : Statuses)
         → Said (Call.acknowledge conn «exp_stat_sn»)
-        (state (sessionOf (now (n .entry)) (now (m .entry))) k ss)
+        (sessionWords (now (n .entry)) (now (m .entry)) k ss)
         (packed r) noOutputs
-        (state (sessionOf (now (n .exit)) (now (m .exit))) k ss)) ⌝ }
+        (sessionWords (now (n .exit)) (now (m .exit)) k ss)) ⌝ }
 {
     let s = load(n, m);
     match session_statuses::acknowledge(s, conn, exp_stat_sn) {
@@ -186,9 +194,9 @@ pub extern "C" fn drawbevel_core_snack(
 )
     ensures { λ _. ⌜ ((k : Commands) (ss : Statuses)
         → Said (Call.snack conn (now (pdu .entry)))
-        (state (sessionOf (now (n .entry)) (now (m .entry))) k ss)
+        (sessionWords (now (n .entry)) (now (m .entry)) k ss)
         (now (answer .exit)) noOutputs
-        (state (sessionOf (now (n .entry)) (now (m .entry))) k ss)) ⌝ }
+        (sessionWords (now (n .entry)) (now (m .entry)) k ss)) ⌝ }
 {
     let s = load(n, m);
     let a = session_snack::snack(s, conn, pdu);
@@ -208,9 +216,9 @@ pub extern "C" fn drawbevel_core_resend(
 ) -> u64
     ensures { λ r. ⌜ ((k : Commands)
         → Said (Call.resend conn «stat_sn» (outputs (now (out .entry))))
-        (state (sessionOf (now (n .entry)) (now (m .entry))) k (statusesIn (now (statuses .entry)) (now («status_tickets» .entry))))
+        (sessionWords (now (n .entry)) (now (m .entry)) k (statusesIn (now (statuses .entry)) (now («status_tickets» .entry))))
         (packed r) (outputs (now (out .exit)))
-        (state (sessionOf (now (n .entry)) (now (m .entry))) k (statusesIn (now (statuses .entry)) (now («status_tickets» .entry))))) ⌝ }
+        (sessionWords (now (n .entry)) (now (m .entry)) k (statusesIn (now (statuses .entry)) (now («status_tickets» .entry))))) ⌝ }
 {
     let s = load(n, m);
     let a = session_statuses::resend(s, conn, stat_sn, statuses, status_tickets, out);
@@ -222,9 +230,9 @@ pub extern "C" fn drawbevel_core_resend(
 pub extern "C" fn drawbevel_core_window(n: &[u32; 15], m: &[u64; 6], answer: &mut [u32; 4])
     ensures { λ _. ⌜ ((k : Commands) (ss : Statuses)
         → Said Call.windowNumbers
-        (state (sessionOf (now (n .entry)) (now (m .entry))) k ss)
+        (sessionWords (now (n .entry)) (now (m .entry)) k ss)
         (now (answer .exit)) noOutputs
-        (state (sessionOf (now (n .entry)) (now (m .entry))) k ss)) ⌝ }
+        (sessionWords (now (n .entry)) (now (m .entry)) k ss)) ⌝ }
 {
     let s = load(n, m);
     let a = session::window_numbers(s);
@@ -243,9 +251,9 @@ fn send_known(
 ) -> u64
     ensures { λ w. ⌜ ((k : Commands)
         → Said (Call.send conn ticket r (outputs (now (out .entry))))
-        (state (sessionOf (now (n .entry)) (now (m .entry))) k (statusesIn (now (statuses .entry)) (now («status_tickets» .entry))))
+        (sessionWords (now (n .entry)) (now (m .entry)) k (statusesIn (now (statuses .entry)) (now («status_tickets» .entry))))
         (packed w) (outputs (now (out .exit)))
-        (state (sessionOf (now (n .exit)) (now (m .exit))) k (statusesIn (now (statuses .exit)) (now («status_tickets» .exit))))) ⌝ }
+        (sessionWords (now (n .exit)) (now (m .exit)) k (statusesIn (now (statuses .exit)) (now («status_tickets» .exit))))) ⌝ }
 {
     let s = load(n, m);
     match session_statuses::send(s, conn, ticket, r, out, statuses, status_tickets) {
@@ -258,7 +266,26 @@ fn send_known(
     }
 }
 
-// Sends a response, its header into the first 48 bytes of out. Words that are no response are FIELD, and change nothing.
+// The answer to words that are no response, with the length of the lent output: BUFFER, NOCONN, CLOSED, then writing's refusal of them.
+fn send_unfit(n: &[u32; 15], m: &[u64; 6], conn: u32, stated: u64, lent: usize) -> u64
+    ensures { λ w. ⌜ ((k : Commands) (ss : Statuses) (o : List ℕ) → length o ≡ lent
+        → SaidUnfit conn stated (outputs o)
+        (sessionWords (now (n .entry)) (now (m .entry)) k ss)
+        (packed w) (outputs o)
+        (sessionWords (now (n .entry)) (now (m .entry)) k ss)) ⌝ }
+{
+    if lent < HEADER_BYTES {
+        return answer_words::pack_refused(Refusal::Buffer);
+    }
+    let s = load(n, m);
+    match reach(s, conn) {
+        Reached::NoConn => answer_words::pack_refused(Refusal::NoConn),
+        Reached::Closed => answer_words::pack_refused(Refusal::Closed),
+        Reached::Open(_) => answer_words::pack_refused(unfit_refusal(stated, MAX_DATA)),
+    }
+}
+
+// Sends a response, its header into the first 48 bytes of out.
 #[no_mangle]
 pub extern "C" fn drawbevel_core_send(
     n: &mut [u32; 15],
@@ -271,14 +298,16 @@ pub extern "C" fn drawbevel_core_send(
     out: &mut [u8],
 ) -> u64
     ensures { λ r. ⌜ ((k : Commands)
-        → SaidSend (responseOf (now (words .entry))) conn ticket (outputs (now (out .entry)))
-        (state (sessionOf (now (n .entry)) (now (m .entry))) k (statusesIn (now (statuses .entry)) (now («status_tickets» .entry))))
+        → SaidBy (sends (responseOf (now (words .entry))) conn ticket (outputs (now (out .entry))))
+        (sessionWords (now (n .entry)) (now (m .entry)) k (statusesIn (now (statuses .entry)) (now («status_tickets» .entry))))
         (packed r) (outputs (now (out .exit)))
-        (state (sessionOf (now (n .exit)) (now (m .exit))) k (statusesIn (now (statuses .exit)) (now («status_tickets» .exit))))) ⌝ }
+        (sessionWords (now (n .exit)) (now (m .exit)) k (statusesIn (now (statuses .exit)) (now («status_tickets» .exit))))) ⌝ }
 {
     match response(words) {
-        Made::Known(r) => send_known(n, m, statuses, status_tickets, conn, ticket, r, out),
-        Made::Unknown => answer_words::pack_refused(Refusal::Field),
+        FromWords::Response(r) => {
+            send_known(n, m, statuses, status_tickets, conn, ticket, r, out)
+        }
+        FromWords::Unfit(stated) => send_unfit(n, m, conn, stated, out.len()),
     }
 }
 
@@ -295,8 +324,8 @@ pub extern "C" fn drawbevel_core_fresh(
     stat_sn: u32,
     level: u8,
 )
-    ensures { λ _. ⌜ IsFresh (givenOf first «stat_sn» level)
-        (state (sessionOf (now (n .exit)) (now (m .exit))) (commands (now (headers .exit)) (now (tickets .exit)))
+    ensures { λ _. ⌜ FreshWords (givenOf first «stat_sn» level)
+        (sessionWords (now (n .exit)) (now (m .exit)) (commands (now (headers .exit)) (now (tickets .exit)))
         (statusesIn (now (statuses .exit)) (now («status_tickets» .exit)))) ⌝ }
 {
     let f = session::fresh(Given {

@@ -3,8 +3,9 @@
 use login_types::state::State;
 use login_words::store;
 ghost use Rattle.login_book.specs.Login.{loginStep};
-ghost use Rattle.login_types.specs.Agree.{bookOf, IsFresh};
-ghost use Rattle.login_words.specs.Login.{loginOf, LoginSaid};
+ghost use mathlib.Core.Path.{_≡_};
+ghost use Rattle.login_types.specs.Agree.{bookOf, freshLogin, IsFresh};
+ghost use Rattle.login_words.specs.Login.{loginWords, loginOf, wordsOf, LoginSaid};
 
 // A login before its first request.
 #[no_mangle]
@@ -13,7 +14,8 @@ pub extern "C" fn drawbevel_core_login_fresh(
     values: &mut [u32; 12],
     seen: &mut [bool; 28],
 )
-    ensures { λ _. ⌜ IsFresh (loginOf (now (n .exit)) (now (values .exit)) (now (seen .exit))) ⌝ }
+    ensures { λ _. ⌜ IsFresh (loginOf (loginWords (now (n .exit)) (now (values .exit)) (now (seen .exit))))
+        × (loginWords (now (n .exit)) (now (values .exit)) (now (seen .exit)) ≡ wordsOf freshLogin) ⌝ }
 {
     let l = State::fresh();
     store(n, values, seen, l);
@@ -33,10 +35,10 @@ pub extern "C" fn drawbevel_core_login(
     text: &mut [u8],
     answer: &mut [u64; 8],
 )
-    ensures { λ _. ⌜ LoginSaid (loginOf (now (n .entry)) (now (values .entry)) (now (seen .entry)))
-        (loginStep (bookOf (loginOf (now (n .entry)) (now (values .entry)) (now (seen .entry))))
+    ensures { λ _. ⌜ LoginSaid (loginWords (now (n .entry)) (now (values .entry)) (now (seen .entry))) (now (gather .entry)) (now (text .entry))
+        (loginStep (bookOf (loginOf (loginWords (now (n .entry)) (now (values .entry)) (now (seen .entry)))))
         (now (pdu .entry)) live new (now (ours .entry)) (now (gather .entry)) (now (text .entry)))
-        (now (answer .exit)) (loginOf (now (n .exit)) (now (values .exit)) (now (seen .exit))) (now (gather .exit)) (now (text .exit)) ⌝ }
+        (now (answer .exit)) (loginWords (now (n .exit)) (now (values .exit)) (now (seen .exit))) (now (gather .exit)) (now (text .exit)) ⌝ }
 {
     login_words::request(n, values, seen, pdu, live, new, ours, gather, text, answer);
 }

@@ -1,10 +1,13 @@
 // The header reader and writer for C.
+use field::HEADER_BYTES;
+use refusal::Refusal;
 use request_header::LIMITS;
 use response_header::MAX_DATA;
 use response_header::Numbers;
 use response_header::Response;
-use response_words::Made;
+use response_words::FromWords;
 use response_words::response;
+use response_words::unfit_refusal;
 use response_writer::WriteAnswer;
 ghost use mathlib.Core.Path.{_≡_};
 ghost use Rattle.request_header.specs.Request.{limits, readPdu};
@@ -35,7 +38,7 @@ fn write_known(out: &mut [u8], r: Response, n: Numbers) -> u32
 }
 
 // Writes a response's header into the first 48 bytes of out: 0, or the refusal's number, which leaves every byte.
-// Words that are no response are FIELD, after BUFFER.
+// SessionWords that are no response are TOOLONG by the data length that they state, else FIELD; both after BUFFER.
 #[no_mangle]
 pub extern "C" fn drawbevel_core_write(
     out: &mut [u8],
@@ -47,8 +50,13 @@ pub extern "C" fn drawbevel_core_write(
     ensures { λ k. ⌜ _≡_ {A = Outcome} (record { answer = k; bytes = now (out .exit) }) (writeWords (responseOf (now (words .entry))) (now (out .entry)) (numbersOf «stat_sn» «exp_cmd_sn» «max_cmd_sn»)) ⌝ }
 {
     match response(words) {
-        Made::Unknown => { if out.len() < 48 { 1 } else { 3 } }
-        Made::Known(r) => write_known(
+        FromWords::Unfit(stated) => {
+            if out.len() < HEADER_BYTES {
+                return refusal::number_of(Refusal::Buffer) as u32;
+            }
+            refusal::number_of(unfit_refusal(stated, MAX_DATA)) as u32
+        }
+        FromWords::Response(r) => write_known(
             out,
             r,
             Numbers {

@@ -8,16 +8,27 @@ use login_types::state::State;
 use refusal::number_of;
 use refusal::status_of;
 use words::flag;
-use words::low8;
-use words::low16;
 ghost use mathlib.Core.Path.{_≡_};
 ghost use Rattle.login_book.specs.Login.{loginStep};
 ghost use Rattle.login_types.specs.Agree.{bookOf};
-ghost use Rattle.login_words.specs.Login.{loginOf, loginWords, LoginSaid};
+ghost use Rattle.login_words.specs.Login.{loginWords, loginFits, loginOf, wordsOf, loginAnswerWords, changesNothing, LoginSaid};
 
-// The login that the numbers, values and keys are.
+// One more than the greatest value of a field of 8 bits, and of 16.
+const WIDE_8: u64 = 0x100;
+
+const WIDE_16: u64 = 0x1_0000;
+
+// Whether the numbers are those of a login: none is too wide for its field.
+fn numbers_fit(n: &[u64; 8]) -> bool
+    ensures { λ r. ⌜ r ≡ loginFits (now (n .entry)) ⌝ }
+{
+    (((n[0] < 2) & (n[1] < 2)) & ((n[2] < 2) & (n[3] < WIDE_8)))
+        & (((n[5] < WIDE_16) & (n[6] < WIDE_16)) & (n[7] < WIDE_16))
+}
+
+// The login that the numbers, values and keys are; numbers that are those of none stand for a login that is over.
 fn load(n: &[u64; 8], values: &[u32; 12], seen: &[bool; 28]) -> State
-    ensures { λ r. ⌜ r ≡ loginOf (now (n .entry)) (now (values .entry)) (now (seen .entry)) ⌝ }
+    ensures { λ r. ⌜ r ≡ loginOf (loginWords (now (n .entry)) (now (values .entry)) (now (seen .entry))) ⌝ }
 {
     let v = *values;
     let s = *seen;
@@ -26,22 +37,40 @@ fn load(n: &[u64; 8], values: &[u32; 12], seen: &[bool; 28]) -> State
         seen: s,
         parameters: parameters,
     };
+    let stage = n[3];
+    let tsih = n[5];
+    let cid = n[6];
+    let gathered = n[7];
+    if numbers_fit(n) {
+        return State {
+            over: n[0] != 0,
+            begun: n[1] != 0,
+            judged: n[2] != 0,
+            stage: stage as u8,
+            isid: n[4],
+            tsih: tsih as u16,
+            cid: cid as u16,
+            gathered: gathered as u16,
+            settled: settled,
+        };
+    }
     State {
-        over: n[0] != 0,
-        begun: n[1] != 0,
-        judged: n[2] != 0,
-        stage: low8(n[3]),
-        isid: n[4],
-        tsih: low16(n[5]),
-        cid: low16(n[6]),
-        gathered: low16(n[7]),
+        over: true,
+        begun: false,
+        judged: false,
+        stage: 0,
+        isid: 0,
+        tsih: 0,
+        cid: 0,
+        gathered: 0,
         settled: settled,
     }
 }
 
 // Keeps the login in the numbers, values and keys.
 pub fn store(n: &mut [u64; 8], values: &mut [u32; 12], seen: &mut [bool; 28], l: State)
-    ensures { λ _. ⌜ loginOf (now (n .exit)) (now (values .exit)) (now (seen .exit)) ≡ l ⌝ }
+    ensures { λ _. ⌜ (loginWords (now (n .exit)) (now (values .exit)) (now (seen .exit)) ≡ wordsOf l)
+        × (loginOf (loginWords (now (n .exit)) (now (values .exit)) (now (seen .exit))) ≡ l) ⌝ }
 {
     let settled = l.settled;
     let s = settled.seen;
@@ -63,7 +92,7 @@ pub fn store(n: &mut [u64; 8], values: &mut [u32; 12], seen: &mut [bool; 28], l:
 
 // The answer in seven words: the refusal's number or 0, its status, the stage, T, CSG, NSG and TSIH, and the length of the text.
 fn answer_in_words(a: Answer) -> [u64; 8]
-    ensures { λ w. ⌜ w ≡ loginWords a ⌝ }
+    ensures { λ w. ⌜ w ≡ loginAnswerWords a ⌝ }
 {
     match a {
         Answer::Refused(f) => [number_of(f) as u64, status_of(f) as u64, 0, 0, 0, 0, 0, 0],
@@ -80,6 +109,16 @@ fn answer_in_words(a: Answer) -> [u64; 8]
     }
 }
 
+// Whether an answer leaves the login: every refusal does but 6.
+fn changes_nothing(a: Answer) -> bool
+    ensures { λ r. ⌜ r ≡ changesNothing a ⌝ }
+{
+    match a {
+        Answer::Refused(f) => number_of(f) != 6,
+        Answer::Accepted(_) => false,
+    }
+}
+
 // One login request.
 pub fn request(
     n: &mut [u64; 8],
@@ -93,15 +132,18 @@ pub fn request(
     text: &mut [u8],
     answer: &mut [u64; 8],
 )
-    ensures { λ _. ⌜ LoginSaid (loginOf (now (n .entry)) (now (values .entry)) (now (seen .entry)))
-        (loginStep (bookOf (loginOf (now (n .entry)) (now (values .entry)) (now (seen .entry))))
+    ensures { λ _. ⌜ LoginSaid (loginWords (now (n .entry)) (now (values .entry)) (now (seen .entry))) (now (gather .entry)) (now (text .entry))
+        (loginStep (bookOf (loginOf (loginWords (now (n .entry)) (now (values .entry)) (now (seen .entry)))))
         (now (pdu .entry)) live new (now (ours .entry)) (now (gather .entry)) (now (text .entry)))
-        (now (answer .exit)) (loginOf (now (n .exit)) (now (values .exit)) (now (seen .exit))) (now (gather .exit)) (now (text .exit)) ⌝ }
+        (now (answer .exit)) (loginWords (now (n .exit)) (now (values .exit)) (now (seen .exit))) (now (gather .exit)) (now (text .exit)) ⌝ }
 {
     let l = load(n, values, seen);
     let step = login_request(l, pdu, live, new, ours, gather, text);
     let after = step.state;
-    store(n, values, seen, after);
     let a = step.answer;
     *answer = answer_in_words(a);
+    if changes_nothing(a) {
+        return;
+    }
+    store(n, values, seen, after);
 }

@@ -1,4 +1,5 @@
-// The response that words are.
+// The response that words are. A word too wide for its field makes them none: no word is cut.
+use refusal::Refusal;
 use response_header::LoginResponse;
 use response_header::LogoutResponse;
 use response_header::NopIn;
@@ -6,92 +7,173 @@ use response_header::Reject;
 use response_header::Response;
 use response_header::ScsiResponse;
 use response_header::TaskManagementResponse;
-use words::low8;
-use words::low16;
-use words::low32;
+use response_header::judge::too_long;
 ghost use mathlib.Core.Path.{_≡_};
-ghost use Rattle.response_words.specs.ResponseWords.{nopInOf, scsiResponseOf, taskManagementResponseOf, loginResponseOf, logoutResponseOf, responseOf};
+ghost use Rattle.refusal.specs.Refusal.{number};
+ghost use Rattle.response_words.specs.ResponseWords.{nopInOf, scsiResponseOf, taskManagementResponseOf, loginResponseOf, logoutResponseOf, rejectOf, responseOf, unfitRefusal};
 
-fn nop_in(w: &[u64; 10]) -> NopIn
+// One more than the greatest value of a field of 32 bits, and of 16 and 8.
+const WIDE_32: u64 = 0x1_0000_0000;
+
+const WIDE_16: u64 = 0x1_0000;
+
+const WIDE_8: u64 = 0x100;
+
+// What words are: a response, or none, with the data length that they state.
+pub enum FromWords {
+    Response(Response),
+    Unfit(u64),
+}
+
+fn nop_in(w: &[u64; 10]) -> FromWords
     ensures { λ r. ⌜ r ≡ nopInOf (now (w .entry)) ⌝ }
 {
-    NopIn {
-        data_segment_length: low32(w[1]),
-        lun: w[2],
-        initiator_task_tag: low32(w[3]),
-        target_transfer_tag: low32(w[4]),
+    let stated = w[1];
+    let lun = w[2];
+    let itt = w[3];
+    let ttt = w[4];
+    if (stated < WIDE_32) & (itt < WIDE_32) & (ttt < WIDE_32) {
+        FromWords::Response(Response::NopIn(NopIn {
+            data_segment_length: stated as u32,
+            lun: lun,
+            initiator_task_tag: itt as u32,
+            target_transfer_tag: ttt as u32,
+        }))
+    } else {
+        FromWords::Unfit(stated)
     }
 }
 
-fn scsi_response(w: &[u64; 10]) -> ScsiResponse
+fn scsi_response(w: &[u64; 10]) -> FromWords
     ensures { λ r. ⌜ r ≡ scsiResponseOf (now (w .entry)) ⌝ }
 {
-    ScsiResponse {
-        overflow: w[1] != 0,
-        underflow: w[2] != 0,
-        response: low8(w[3]),
-        status: low8(w[4]),
-        data_segment_length: low32(w[5]),
-        initiator_task_tag: low32(w[6]),
-        snack_tag: low32(w[7]),
-        residual_count: low32(w[8]),
+    let o = w[1];
+    let u = w[2];
+    let code = w[3];
+    let status = w[4];
+    let stated = w[5];
+    let itt = w[6];
+    let tag = w[7];
+    let residual = w[8];
+    if (((o < 2) & (u < 2)) & ((code < WIDE_8) & (status < WIDE_8)))
+        & (((stated < WIDE_32) & (itt < WIDE_32)) & ((tag < WIDE_32) & (residual < WIDE_32)))
+    {
+        FromWords::Response(Response::ScsiResponse(ScsiResponse {
+            overflow: o != 0,
+            underflow: u != 0,
+            response: code as u8,
+            status: status as u8,
+            data_segment_length: stated as u32,
+            initiator_task_tag: itt as u32,
+            snack_tag: tag as u32,
+            residual_count: residual as u32,
+        }))
+    } else {
+        FromWords::Unfit(stated)
     }
 }
 
-fn task_management_response(w: &[u64; 10]) -> TaskManagementResponse
+fn task_management_response(w: &[u64; 10]) -> FromWords
     ensures { λ r. ⌜ r ≡ taskManagementResponseOf (now (w .entry)) ⌝ }
 {
-    TaskManagementResponse {
-        response: low8(w[1]),
-        initiator_task_tag: low32(w[2]),
+    let code = w[1];
+    let itt = w[2];
+    if (code < WIDE_8) & (itt < WIDE_32) {
+        FromWords::Response(Response::TaskManagementResponse(TaskManagementResponse {
+            response: code as u8,
+            initiator_task_tag: itt as u32,
+        }))
+    } else {
+        FromWords::Unfit(0)
     }
 }
 
-fn login_response(w: &[u64; 10]) -> LoginResponse
+fn login_response(w: &[u64; 10]) -> FromWords
     ensures { λ r. ⌜ r ≡ loginResponseOf (now (w .entry)) ⌝ }
 {
-    LoginResponse {
-        transit: w[1] != 0,
-        csg: low8(w[2]),
-        nsg: low8(w[3]),
-        data_segment_length: low32(w[4]),
-        isid: w[5],
-        tsih: low16(w[6]),
-        initiator_task_tag: low32(w[7]),
-        status_class: low8(w[8]),
-        status_detail: low8(w[9]),
+    let t = w[1];
+    let csg = w[2];
+    let nsg = w[3];
+    let stated = w[4];
+    let isid = w[5];
+    let tsih = w[6];
+    let itt = w[7];
+    let class = w[8];
+    let detail = w[9];
+    if (((t < 2) & (csg < WIDE_8)) & ((nsg < WIDE_8) & (stated < WIDE_32)))
+        & (((tsih < WIDE_16) & (itt < WIDE_32)) & ((class < WIDE_8) & (detail < WIDE_8)))
+    {
+        FromWords::Response(Response::LoginResponse(LoginResponse {
+            transit: t != 0,
+            csg: csg as u8,
+            nsg: nsg as u8,
+            data_segment_length: stated as u32,
+            isid: isid,
+            tsih: tsih as u16,
+            initiator_task_tag: itt as u32,
+            status_class: class as u8,
+            status_detail: detail as u8,
+        }))
+    } else {
+        FromWords::Unfit(stated)
     }
 }
 
-fn logout_response(w: &[u64; 10]) -> LogoutResponse
+fn logout_response(w: &[u64; 10]) -> FromWords
     ensures { λ r. ⌜ r ≡ logoutResponseOf (now (w .entry)) ⌝ }
 {
-    LogoutResponse {
-        response: low8(w[1]),
-        initiator_task_tag: low32(w[2]),
-        time2wait: low16(w[3]),
-        time2retain: low16(w[4]),
+    let code = w[1];
+    let itt = w[2];
+    let wait = w[3];
+    let retain = w[4];
+    if ((code < WIDE_8) & (itt < WIDE_32)) & ((wait < WIDE_16) & (retain < WIDE_16)) {
+        FromWords::Response(Response::LogoutResponse(LogoutResponse {
+            response: code as u8,
+            initiator_task_tag: itt as u32,
+            time2wait: wait as u16,
+            time2retain: retain as u16,
+        }))
+    } else {
+        FromWords::Unfit(0)
     }
 }
 
-// A response, or an opcode that none has.
-pub enum Made {
-    Known(Response),
-    Unknown,
+fn reject(w: &[u64; 10]) -> FromWords
+    ensures { λ r. ⌜ r ≡ rejectOf (now (w .entry)) ⌝ }
+{
+    let reason = w[1];
+    if reason < WIDE_8 {
+        FromWords::Response(Response::Reject(Reject {
+            reason: reason as u8,
+        }))
+    } else {
+        FromWords::Unfit(0)
+    }
 }
 
-// The response that the words are, each reduced to the width of its field.
-pub fn response(w: &[u64; 10]) -> Made
+// The response that the words are, or that they are none: an opcode that no response has, or a word too wide for its field.
+pub fn response(w: &[u64; 10]) -> FromWords
     ensures { λ r. ⌜ r ≡ responseOf (now (w .entry)) ⌝ }
 {
     let opcode = w[0];
     match opcode {
-        0x20 => Made::Known(Response::NopIn(nop_in(w))),
-        0x21 => Made::Known(Response::ScsiResponse(scsi_response(w))),
-        0x22 => Made::Known(Response::TaskManagementResponse(task_management_response(w))),
-        0x23 => Made::Known(Response::LoginResponse(login_response(w))),
-        0x26 => Made::Known(Response::LogoutResponse(logout_response(w))),
-        0x3f => Made::Known(Response::Reject(Reject { reason: low8(w[1]) })),
-        _ => Made::Unknown,
+        0x20 => nop_in(w),
+        0x21 => scsi_response(w),
+        0x22 => task_management_response(w),
+        0x23 => login_response(w),
+        0x26 => logout_response(w),
+        0x3f => reject(w),
+        _ => FromWords::Unfit(0),
+    }
+}
+
+// Writing's refusal of words that are no response, by the data length that they state: TOOLONG, else FIELD.
+pub fn unfit_refusal(stated: u64, max_data: u32) -> Refusal
+    ensures { λ f. ⌜ number f ≡ unfitRefusal «max_data» stated ⌝ }
+{
+    if too_long(stated, max_data) {
+        Refusal::TooLong
+    } else {
+        Refusal::Field
     }
 }

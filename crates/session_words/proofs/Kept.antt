@@ -3,8 +3,7 @@
 use mathlib.Core.Path.{_≡_, refl, ap, _∙_, subst}
 use mathlib.Core.Bool.{Bool}
 use mathlib.Core.List.{List, [], _∷_}
-use Prim.Native.Nat.{ℕ, zero, suc, _+_, _*_, _≤_, _<_, _%_, _^_}
-use native.Mathlib.Nat.{mod-eq-of-lt}
+use Prim.Native.Nat.{ℕ, zero, suc, _+_, _*_, _≤_, _<_}
 use native.Mathlib.Omega.{arith}
 use borrow.Author.Tests.{le-ltb}
 use lib.ListN.{length, getD, set}
@@ -18,14 +17,14 @@ use Rattle.session_state.specs.declared.Session.{Session}
 use Rattle.session_state.specs.After.{noConn, connAt, afterWindow, afterConns, afterConn, afterLedger}
 use Rattle.session_connections.specs.declared.Closes.the-variants as C
 use Rattle.session_connections.specs.After.{allShut, oneShut, closing}
-use Rattle.session_words.specs.State.{connOfWords, sessionOf}
+use Rattle.session_words.specs.State.{connOfWords, sessionOf, windowNumbers, windowMaps, sessionNumbers}
 
 abbrev at : Session → ℕ → Conn
 at s c = getD (s .conns) c noConn
 
-abbrev made : Session → ℕ → List ℕ → List Conn → Session
-made s v o c = record {
-  level = v;
+abbrev made : Session → List ℕ → List Conn → Session
+made s o c = record {
+  level = s .level;
   window = record {
     next = s .window .next;
     handed = s .window .handed;
@@ -36,31 +35,16 @@ made s v o c = record {
   conns = c;
 }
 
-abbrev numbers : Session → List ℕ
-numbers s =
-    s .level ∷ s .window .next ∷ s .window .handed
-    ∷ flagWord (at s 0 .«is_open») ∷ at s 0 .ledger .next ∷ at s 0 .ledger .held
-    ∷ flagWord (at s 1 .«is_open») ∷ at s 1 .ledger .next ∷ at s 1 .ledger .held
-    ∷ flagWord (at s 2 .«is_open») ∷ at s 2 .ledger .next ∷ at s 2 .ledger .held
-    ∷ flagWord (at s 3 .«is_open») ∷ at s 3 .ledger .next ∷ at s 3 .ledger .held ∷ []
-
-abbrev maps : Session → List ℕ
-maps s =
-    s .window .held ∷ s .window .voided
-    ∷ getD (s .window .origins) 0 0 ∷ getD (s .window .origins) 1 0 ∷ getD (s .window .origins) 2 0 ∷ getD (s .window .origins) 3 0 ∷ []
-
-pub kept : (s : Session) → s .level < 2 ^ 8 → length (s .window .origins) ≡ 4 → length (s .conns) ≡ 4 → sessionOf (numbers s) (maps s) ≡ s
-unfolding sessionOf
-kept s hv ho hc =
+pub kept : (s : Session) → length (s .window .origins) ≡ 4 → length (s .conns) ≡ 4 → sessionOf (sessionNumbers s) (windowMaps (s .window)) ≡ s
+unfolding sessionOf sessionNumbers connAt
+kept s ho hc =
     let o = getD (s .window .origins) 0 0 ∷ getD (s .window .origins) 1 0 ∷ getD (s .window .origins) 2 0 ∷ getD (s .window .origins) 3 0 ∷ [] in
     let e : (connOfWords (flagWord (at s 0 .«is_open»)) (at s 0 .ledger .next) (at s 0 .ledger .held)
     ∷ connOfWords (flagWord (at s 1 .«is_open»)) (at s 1 .ledger .next) (at s 1 .ledger .held)
     ∷ connOfWords (flagWord (at s 2 .«is_open»)) (at s 2 .ledger .next) (at s 2 .ledger .held)
     ∷ connOfWords (flagWord (at s 3 .«is_open»)) (at s 3 .ledger .next) (at s 3 .ledger .held) ∷ []) ≡ s .conns =
     rw (flag-back (at s 0 .«is_open»), flag-back (at s 1 .«is_open»), flag-back (at s 2 .«is_open»), flag-back (at s 3 .«is_open»)) (four noConn (s .conns) hc) in
-    ap (λ (c : List Conn). made s (s .level % 2 ^ 8) o c) e
-    ∙ ap (λ (v : ℕ). made s v o (s .conns)) (mod-eq-of-lt hv)
-    ∙ ap (λ (x : List ℕ). made s (s .level) x (s .conns)) (four 0 (s .window .origins) ho)
+    ap (λ (c : List Conn). made s o c) e ∙ ap (λ (x : List ℕ). made s x (s .conns)) (four 0 (s .window .origins) ho)
 
 -- ---- what a call changes
 
@@ -79,17 +63,14 @@ spread zero (x ∷ l) h = absurd (omega arith)
 spread (suc k) [] h = absurd (omega arith)
 spread (suc k) (x ∷ l) h = ap (λ (r : List ℕ). x ∷ r) (spread k l (omega arith))
 
-abbrev windowMaps : Window → List ℕ
-windowMaps w = w .held ∷ w .voided ∷ getD (w .origins) 0 0 ∷ getD (w .origins) 1 0 ∷ getD (w .origins) 2 0 ∷ getD (w .origins) 3 0 ∷ []
-
 abbrev from : Window → List ℕ → Window
 from w o = record { next = w .next; handed = w .handed; held = w .held; voided = w .voided; origins = o }
 
 pub window-kept : (n m : List ℕ) (w : Window) → length n ≡ 15 → length (w .origins) ≡ 4
-    → sessionOf (set (set n 1 (w .next)) 2 (w .handed)) (windowMaps w) ≡ afterWindow (sessionOf n m) w
+    → sessionOf (windowNumbers w n) (windowMaps w) ≡ afterWindow (sessionOf n m) w
 unfolding sessionOf words
 window-kept n m w hn ho =
-    subst (λ (l : List ℕ). sessionOf (set (set l 1 (w .next)) 2 (w .handed)) (windowMaps w) ≡ afterWindow (sessionOf l m) w) (spread 15 n hn)
+    subst (λ (l : List ℕ). sessionOf (windowNumbers w l) (windowMaps w) ≡ afterWindow (sessionOf l m) w) (spread 15 n hn)
     (ap (λ (o : List ℕ). afterWindow (sessionOf (words 15 n) m) (from w o)) (four 0 (w .origins) ho))
 
 -- one connection's three numbers

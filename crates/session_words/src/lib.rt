@@ -13,7 +13,7 @@ ghost use lib.ListN.{length};
 ghost use Rattle.words.specs.Words.{flagWord};
 ghost use Rattle.session_state.specs.After.{afterWindow, afterConns, afterConn, afterLedger};
 ghost use Rattle.session_connections.specs.After.{closing};
-ghost use Rattle.session_words.specs.State.{connOfWords, sessionOf};
+ghost use Rattle.session_words.specs.State.{connOfWords, sessionOf, windowNumbers, windowMaps, ledgerNumbers, connNumbers, shutNumbers, sessionNumbers};
 
 // The connection of three numbers.
 fn conn_of(is_open: u32, next: u32, held: u32) -> Conn
@@ -61,7 +61,7 @@ pub fn load(n: &[u32; 15], m: &[u64; 6]) -> Session
     ensures { λ r. ⌜ r ≡ sessionOf (now (n .entry)) (now (m .entry)) ⌝ }
 {
     Session {
-        level: (n[0] % 256) as u8,
+        level: n[0],
         window: window_of(n, m),
         conns: conns_of(n),
     }
@@ -69,7 +69,7 @@ pub fn load(n: &[u32; 15], m: &[u64; 6]) -> Session
 
 // Keeps the session in the numbers and the maps.
 pub fn store(n: &mut [u32; 15], m: &mut [u64; 6], s: Session)
-    ensures { λ _. ⌜ sessionOf (now (n .exit)) (now (m .exit)) ≡ s ⌝ }
+    ensures { λ _. ⌜ (now (n .exit) ≡ sessionNumbers s) × (now (m .exit) ≡ windowMaps (s .window)) × (sessionOf (now (n .exit)) (now (m .exit)) ≡ s) ⌝ }
 {
     let w = s.window;
     let o = w.origins;
@@ -84,7 +84,7 @@ pub fn store(n: &mut [u32; 15], m: &mut [u64; 6], s: Session)
     let l2 = c2.ledger;
     let l3 = c3.ledger;
     *n = [
-        s.level as u32,
+        s.level,
         w.next,
         w.handed,
         open_word(c0),
@@ -105,7 +105,8 @@ pub fn store(n: &mut [u32; 15], m: &mut [u64; 6], s: Session)
 // Keeps a window.
 pub fn store_window(n: &mut [u32], m: &mut [u64; 6], w: Window)
     requires { ⌜ length (now n) ≡ 15 ⌝ }
-    ensures { λ _. ⌜ sessionOf (now (n .exit)) (now (m .exit)) ≡ afterWindow (sessionOf (now (n .entry)) (now (m .entry))) w ⌝ }
+    ensures { λ _. ⌜ (now (n .exit) ≡ windowNumbers w (now (n .entry))) × (now (m .exit) ≡ windowMaps w)
+        × (sessionOf (now (n .exit)) (now (m .exit)) ≡ afterWindow (sessionOf (now (n .entry)) (now (m .entry))) w) ⌝ }
 {
     let own = w.origins;
     n[1] = w.next;
@@ -116,21 +117,23 @@ pub fn store_window(n: &mut [u32], m: &mut [u64; 6], w: Window)
 // Keeps the connection of a number.
 pub fn store_conn(n: &mut [u32], conn: u32, k: Conn)
     requires { ⌜ length (now n) ≡ 15 ⌝ }
-    ensures { λ _. ⌜ ((m : List ℕ) → sessionOf (now (n .exit)) m ≡ afterConn (sessionOf (now (n .entry)) m) conn k) ⌝ }
+    ensures { λ _. ⌜ (now (n .exit) ≡ connNumbers conn k (now (n .entry)))
+        × ((m : List ℕ) → sessionOf (now (n .exit)) m ≡ afterConn (sessionOf (now (n .entry)) m) conn k) ⌝ }
 {
     if conn < CONNECTIONS {
-        let at = 3 + 3 * (conn as usize);
-        let l = k.ledger;
-        n[at] = open_word(k);
-        n[at + 1] = l.next;
-        n[at + 2] = l.held;
+        let place = 3 + 3 * (conn as usize);
+        let own = k.ledger;
+        n[place] = open_word(k);
+        n[place + 1] = own.next;
+        n[place + 2] = own.held;
     }
 }
 
 // Keeps the ledger of a connection.
 pub fn store_ledger(n: &mut [u32], conn: u32, l: Ledger)
     requires { ⌜ length (now n) ≡ 15 ⌝ }
-    ensures { λ _. ⌜ ((m : List ℕ) → sessionOf (now (n .exit)) m ≡ afterLedger (sessionOf (now (n .entry)) m) conn l) ⌝ }
+    ensures { λ _. ⌜ (now (n .exit) ≡ ledgerNumbers conn l (now (n .entry)))
+        × ((m : List ℕ) → sessionOf (now (n .exit)) m ≡ afterLedger (sessionOf (now (n .entry)) m) conn l) ⌝ }
 {
     if conn < CONNECTIONS {
         let at = 3 + 3 * (conn as usize);
@@ -142,7 +145,8 @@ pub fn store_ledger(n: &mut [u32], conn: u32, l: Ledger)
 // Closes a connection, or all of them.
 pub fn close(n: &mut [u32], conn: u32, k: Closes)
     requires { ⌜ length (now n) ≡ 15 ⌝ }
-    ensures { λ _. ⌜ ((m : List ℕ) → sessionOf (now (n .exit)) m ≡ afterConns (sessionOf (now (n .entry)) m) (closing k conn (sessionOf (now (n .entry)) m .conns))) ⌝ }
+    ensures { λ _. ⌜ (now (n .exit) ≡ shutNumbers k conn (now (n .entry)))
+        × ((m : List ℕ) → sessionOf (now (n .exit)) m ≡ afterConns (sessionOf (now (n .entry)) m) (closing k conn (sessionOf (now (n .entry)) m .conns))) ⌝ }
 {
     match k {
         Closes::Session => {

@@ -6,12 +6,16 @@ use Rattle.login_words.proofs.store.Tie as tie
 
 returns : tie.Need-returns
 returns c =
-    let l = c .before .before .before .before .before .before .before .before .before .before .before .before .args .l in
+    let d = c .before .before .before .before .before in
+    let l = d .before .before .before .before .before .before .before .args .l in
     let v : l .stage < 2 ^ 8 = search needs in
     let x : l .tsih < 2 ^ 16 = search needs in
     let y : l .cid < 2 ^ 16 = search needs in
     let z : l .gathered < 2 ^ 16 = search needs in
-    rw (c .before .before .before .before .before .before .before .flag .ensures, c .before .before .before .before .before .before .flag2 .ensures, c .before .before .before .before .before .flag3 .ensures) (login-kept l v x y z)
+    let a = d .before .before .flag .ensures in
+    let b = d .before .flag2 .ensures in
+    let e = d .flag3 .ensures in
+    (rw (a, b, e), rw (a, b, e) (login-kept l v x y z))
 
 pub store-spec : {M : Type 1} → statement M
 store-spec =

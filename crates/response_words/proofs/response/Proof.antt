@@ -1,6 +1,5 @@
-use mathlib.Core.Path.{_≡_, refl, sym, ap, _∙_}
 use borrow.Author.Needs.{needs}
-use borrow.Author.Tests.{lt-ltb, le-ltb, le-leb, lt-leb, eq-eqb, ne-eqb, not-true, not-false}
+use borrow.Author.Tests.{ne-eqb}
 use Rattle.response_words.specs.ResponseWords.{responseOf}
 use Rattle.response_words.proofs.response.Statement.{statement}
 use Rattle.response_words.proofs.response.Tie as tie
@@ -27,7 +26,7 @@ returns-5 c = rw (c .before .match .keys5, c .logout-response .ensures)
 
 returns-6 : tie.Need-returns-6
 unfolding responseOf
-returns-6 c = rw (c .before .before .match .keys6, c .low8 .ensures)
+returns-6 c = rw (c .before .match .keys6, c .reject .ensures)
 
 returns-7 : tie.Need-returns-7
 unfolding responseOf
@@ -45,5 +44,4 @@ pub response-spec : {M : Type 1} → statement M
 response-spec =
     tie.close (tie.spec
     (λ c. search needs) (λ c κs. search needs) (λ c κs. search needs) (λ c κs. search needs) (λ c κs. search needs)
-    (λ c κs. search needs) (λ c. search needs) (λ c κs. search needs) returns returns-2 returns-3 returns-4 returns-5
-    returns-6 returns-7)
+    (λ c κs. search needs) (λ c κs. search needs) returns returns-2 returns-3 returns-4 returns-5 returns-6 returns-7)

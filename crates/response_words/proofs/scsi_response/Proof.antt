@@ -1,22 +1,36 @@
 use borrow.Author.Needs.{needs}
+use native.Mathlib.Omega.{arith}
+use denote.Ref.{now}
+use Rattle.response_words.proofs.Fit.{scsi-words}
 use Rattle.response_words.proofs.scsi_response.Statement.{statement}
 use Rattle.response_words.proofs.scsi_response.Tie as tie
 
+cast-code : tie.Need-cast-t45
+cast-code c = omega (arith, scsi-words (now (c .before .before .before .before .before .before .before .before .before .args .w)) (c .if1 .taken) .0 .1 .0)
+
+cast-status : tie.Need-cast-t46
+cast-status c = omega (arith, scsi-words (now (c .before .before .before .before .before .before .before .before .before .args .w)) (c .if1 .taken) .0 .1 .1)
+
+cast-stated : tie.Need-cast-t47
+cast-stated c = omega (arith, scsi-words (now (c .before .before .before .before .before .before .before .before .before .args .w)) (c .if1 .taken) .1 .0 .0)
+
+cast-itt : tie.Need-cast-t48
+cast-itt c = omega (arith, scsi-words (now (c .before .before .before .before .before .before .before .before .before .args .w)) (c .if1 .taken) .1 .0 .1)
+
+cast-tag : tie.Need-cast-t49
+cast-tag c = omega (arith, scsi-words (now (c .before .before .before .before .before .before .before .before .before .args .w)) (c .if1 .taken) .1 .1 .0)
+
+cast-residual : tie.Need-cast-t50
+cast-residual c = omega (arith, scsi-words (now (c .before .before .before .before .before .before .before .before .before .args .w)) (c .if1 .taken) .1 .1 .1)
+
 returns : tie.Need-returns
-returns c =
-    let d = c .before .before .before .before .before in
-    rw (
-      d .before .before .before .before .before .low8 .ensures,
-      d .before .before .before .low82 .ensures,
-      d .before .low32 .ensures,
-      c .before .before .before .before .low322 .ensures,
-      c .before .before .low323 .ensures,
-      c .low324 .ensures,
-    )
+returns c = rw (c .if1 .taken)
+
+returns-2 : tie.Need-returns-2
+returns-2 c = rw (c .if1 .left)
 
 pub scsi-response-spec : {M : Type 1} → statement M
 scsi-response-spec =
     tie.close (tie.spec
-    (λ c. search needs) (λ c. search needs) (λ c. search needs) (λ c κs. search needs) (λ c. search needs)
-    (λ c κs. search needs) (λ c. search needs) (λ c κs. search needs) (λ c. search needs) (λ c κs. search needs)
-    (λ c. search needs) (λ c κs. search needs) (λ c. search needs) (λ c κs. search needs) returns)
+    (λ c. search needs) (λ c. search needs) (λ c. search needs) (λ c. search needs) (λ c. search needs) (λ c. search needs) (λ c. search needs) (λ c. search needs)
+    cast-code cast-status cast-stated cast-itt cast-tag cast-residual returns returns-2)

@@ -9,4 +9,4 @@ returns : tie.Need-returns
 returns c = rw (c .before .window-of .ensures, c .conns-of .ensures []) (unfold sessionOf in refl)
 
 pub load-spec : {M : Type 1} → statement M
-load-spec = tie.close (tie.spec (λ c. search needs) (λ c. search needs) (λ c κs. search needs) (λ c κs. search needs) returns)
+load-spec = tie.close (tie.spec (λ c. search needs) (λ c κs. search needs) (λ c κs. search needs) returns)

@@ -1,6 +1,8 @@
 use native.Mathlib.Omega.{arith}
 use lib.ListN.{length-set}
 use borrow.Author.Needs.{needs}
+use borrow.Author.Tests.{lt-ltb, le-ltb}
+use Rattle.session_words.specs.State.{connNumbers}
 use Rattle.session_words.proofs.Kept.{conn-kept, conn-far}
 use Rattle.session_words.proofs.store_conn.Statement.{statement}
 use Rattle.session_words.proofs.store_conn.Tie as tie
@@ -12,13 +14,16 @@ slice-write-n-3 : tie.Need-slice-write-n-3
 slice-write-n-3 c = simp length-set (omega arith)
 
 returns : tie.Need-returns
-returns c m =
+unfolding connNumbers
+returns c =
     let start = c .before .before .before .before in
     let a = start .args in
-    rw (c .open-word .ensures) (conn-kept (a .conn) (a .n .now) m (a .k) (start .pre) (c .before .before .if1 .taken))
+    let near = c .before .before .if1 .taken in
+    (rw (lt-ltb _ _ near, c .open-word .ensures), λ m. rw (c .open-word .ensures) (conn-kept (a .conn) (a .n .now) m (a .k) (start .pre) near))
 
 returns-2 : tie.Need-returns-2
-returns-2 c m = let a = c .before .before .args in conn-far (a .conn) _ (a .k) (c .if1 .left)
+unfolding connNumbers
+returns-2 c = let a = c .before .before .args in (rw (le-ltb _ _ (c .if1 .left)), λ m. conn-far (a .conn) _ (a .k) (c .if1 .left))
 
 pub store-conn-spec : {M : Type 1} → statement M
 store-conn-spec =

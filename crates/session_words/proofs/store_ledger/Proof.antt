@@ -1,6 +1,8 @@
 use native.Mathlib.Omega.{arith}
 use lib.ListN.{length-set}
 use borrow.Author.Needs.{needs}
+use borrow.Author.Tests.{lt-ltb, le-ltb}
+use Rattle.session_words.specs.State.{ledgerNumbers}
 use Rattle.session_words.proofs.Kept.{ledger-kept, conn-far}
 use Rattle.session_words.proofs.store_ledger.Statement.{statement}
 use Rattle.session_words.proofs.store_ledger.Tie as tie
@@ -9,12 +11,14 @@ slice-write-n-2 : tie.Need-slice-write-n-2
 slice-write-n-2 c = simp length-set (omega arith)
 
 returns : tie.Need-returns
-returns c m =
+unfolding ledgerNumbers
+returns c =
     let a = c .before .args in
-    ledger-kept (a .conn) (a .n .now) m (a .l) (c .before .pre) (c .if1 .taken)
+    (rw (lt-ltb _ _ (c .if1 .taken)), λ m. ledger-kept (a .conn) (a .n .now) m (a .l) (c .before .pre) (c .if1 .taken))
 
 returns-2 : tie.Need-returns-2
-returns-2 c m = let a = c .before .args in conn-far (a .conn) _ _ (c .if1 .left)
+unfolding ledgerNumbers
+returns-2 c = let a = c .before .args in (rw (le-ltb _ _ (c .if1 .left)), λ m. conn-far (a .conn) _ _ (c .if1 .left))
 
 pub store-ledger-spec : {M : Type 1} → statement M
 store-ledger-spec =

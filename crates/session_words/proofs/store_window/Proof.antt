@@ -1,4 +1,4 @@
-use mathlib.Core.Path.{_≡_}
+use mathlib.Core.Path.{_≡_, refl}
 use lib.ListN.{length}
 use borrow.Author.Needs.{needs}
 use Rattle.session_words.proofs.Kept.{window-kept}
@@ -9,7 +9,7 @@ returns : tie.Need-returns
 returns c =
     let a = c .before .before .args in
     let o : length (a .w .origins) ≡ 4 = search needs in
-    window-kept (a .n .now) (a .m .now) (a .w) (c .before .before .pre) o
+    (refl, refl, window-kept (a .n .now) (a .m .now) (a .w) (c .before .before .pre) o)
 
 pub store-window-spec : {M : Type 1} → statement M
 store-window-spec =

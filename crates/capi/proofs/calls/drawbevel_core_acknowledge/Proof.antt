@@ -1,4 +1,6 @@
 use Rattle.session_statuses.specs.Answer.{acknowledgeAnswer}
+use Rattle.capi.specs.Session.{by-acknowledge}
+use Rattle.capi.proofs.Unchanged.{refused-said}
 use borrow.Author.Needs.{needs}
 use Rattle.capi.proofs.calls.drawbevel_core_acknowledge.Statement.{statement}
 use Rattle.capi.proofs.calls.drawbevel_core_acknowledge.Tie as tie
@@ -8,21 +10,20 @@ returns c k ss =
     let load = c .before .before .before .before .before .load .ensures in
     let call = c .before .before .before .before .acknowledge in
     let e = c .before .before .f .given .1 in
-    record {
-      answer = acknowledgeAnswer (call .result);
-      did = rw (← load, e) (rw e at (call .ensures k ss));
-      words = rw e (c .pack-refused .ensures);
-    }
+    refused-said (rw (load, e) at (call .ensures k ss)) (c .pack-refused .ensures)
 
 returns-2 : tie.Need-returns-2
 returns-2 c k ss =
     let load = c .before .before .before .before .before .before .before .load .ensures in
     let call = c .before .before .before .before .before .before .acknowledge in
     let e = c .before .before .before .before .count .given .1 in
+    let kept = c .before .store-ledger .ensures in
     record {
       answer = acknowledgeAnswer (call .result);
-      did = rw (c .before .store-ledger .ensures, ← load, e) (rw e at (call .ensures k ss));
+      did = rw (kept .1, ← load, e) (rw e at (call .ensures k ss));
       words = rw e (c .pack .ensures);
+      writes = rw (kept .0) (by-acknowledge _);
+      stays = rw e tt;
     }
 
 pub drawbevel-core-acknowledge-spec : {M : Type 1} → statement M

@@ -5,12 +5,17 @@ use Rattle.capi.proofs.calls.drawbevel_core_fresh.Tie as tie
 returns : tie.Need-returns
 returns c =
     let f = c .before .before .before .before .before .before .before .before .fresh .ensures in
+    let kept = c .store .ensures in
     record {
-      agrees = rw (c .store .ensures) (f .agrees);
-      zero-headers = f .zero-headers;
-      zero-tickets = f .zero-tickets;
-      zero-statuses = f .zero-statuses;
-      zero-status-tickets = f .zero-status-tickets;
+      fresh = record {
+        agrees = rw (kept .2) (f .agrees);
+        zero-headers = f .zero-headers;
+        zero-tickets = f .zero-tickets;
+        zero-statuses = f .zero-statuses;
+        zero-status-tickets = f .zero-status-tickets;
+      };
+      numbers = rw (kept .2) (kept .0);
+      maps = rw (kept .2) (kept .1);
     }
 
 pub drawbevel-core-fresh-spec : {M : Type 1} → statement M

@@ -1,6 +1,7 @@
 use Rattle.session_connections.specs.Answer.{logoutAnswer}
+use Rattle.capi.specs.Session.{by-logout}
+use Rattle.capi.proofs.Unchanged.{refused-said}
 use borrow.Author.Needs.{needs}
-use Rattle.capi.proofs.Unchanged.{refused-leaves}
 use Rattle.capi.proofs.calls.drawbevel_core_logout.Statement.{statement}
 use Rattle.capi.proofs.calls.drawbevel_core_logout.Tie as tie
 
@@ -9,25 +10,25 @@ returns c k ss =
     let load = c .before .before .before .before .before .before .load .ensures in
     let call = c .before .before .before .before .before .logout in
     let e = c .before .before .a .given .1 in
-    record {
-      answer = logoutAnswer (call .result .answer);
-      did = rw (← load, e) (refused-leaves (rw e at (call .ensures k ss)));
-      words = rw e (c .refused .ensures);
-    }
+    refused-said (rw (load, e) at (call .ensures k ss)) (c .refused .ensures)
 
 returns-2 : tie.Need-returns-2
 returns-2 c k ss =
     let load = c .before .before .before .before .before .before .before .before .before .before .before .load .ensures in
     let call = c .before .before .before .before .before .before .before .before .before .before .logout in
     let e = c .before .before .before .before .before .before .before .a2 .given .1 in
+    let shut = c .before .close .ensures in
+    let kept = c .before .before .before .store-window .ensures in
     record {
       answer = logoutAnswer (call .result .answer);
-      did = rw (c .before .close .ensures, c .before .before .before .store-window .ensures, ← load, e) (rw e at (call .ensures k ss));
-      words = rw e;
+      did = rw (shut .1, kept .2, ← load, e) (rw e at (call .ensures k ss));
+      words = rw e (c .logged-out .ensures);
+      writes = rw (shut .0, kept .0, kept .1) (by-logout (call .result .window) _);
+      stays = rw e tt;
     }
 
 pub drawbevel-core-logout-spec : {M : Type 1} → statement M
 drawbevel-core-logout-spec =
     tie.close (tie.spec
     (λ c κs. search needs) (λ c κs. search needs) (λ c. search needs) (λ c κs. search needs) (λ c. search needs) (λ c κs. search needs)
-    (λ c κs. search needs) returns returns-2)
+    (λ c κs. search needs) (λ c κs. search needs) returns returns-2)

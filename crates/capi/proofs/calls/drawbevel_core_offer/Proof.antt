@@ -1,6 +1,7 @@
 use Rattle.session_commands.specs.Answer.{offerAnswer}
+use Rattle.capi.specs.Session.{by-offer}
+use Rattle.capi.proofs.Unchanged.{refused-said, immediate-said, offered-moves}
 use borrow.Author.Needs.{needs}
-use Rattle.capi.proofs.Unchanged.{refused-leaves, immediate-leaves}
 use Rattle.capi.proofs.calls.drawbevel_core_offer.Statement.{statement}
 use Rattle.capi.proofs.calls.drawbevel_core_offer.Tie as tie
 
@@ -9,32 +10,27 @@ returns c ss =
     let load = c .before .before .before .before .before .before .before .before .load .ensures in
     let call = c .before .before .before .before .before .offer in
     let e = c .before .before .a .given .1 in
-    record {
-      answer = offerAnswer (call .result .answer);
-      did = rw (← load, e) (refused-leaves (rw e at (call .ensures ss)));
-      words = rw e (c .pack-refused .ensures);
-    }
+    refused-said (rw (load, e) at (call .ensures ss)) (c .pack-refused .ensures)
 
 returns-2 : tie.Need-returns-2
 returns-2 c ss =
     let load = c .before .before .before .before .before .before .before .load .ensures in
     let call = c .before .before .before .before .offer in
     let e = c .before .enum-told .given .1 in
-    record {
-      answer = offerAnswer (call .result .answer);
-      did = rw (← load, e) (immediate-leaves (rw e at (call .ensures ss)));
-      words = rw e (c .pack .ensures);
-    }
+    immediate-said (rw (load, e) at (call .ensures ss)) (c .pack .ensures)
 
 returns-3 : tie.Need-returns-3
 returns-3 c ss =
     let load = c .before .before .before .before .before .before .before .before .before .before .before .load .ensures in
     let call = c .before .before .before .before .before .before .before .before .offer in
     let e = c .before .before .before .before .before .a2 .given .1 in
+    let kept = c .before .store-window .ensures in
     record {
       answer = offerAnswer (call .result .answer);
-      did = rw (c .before .store-window .ensures, ← load, e) (rw e at (call .ensures ss));
+      did = rw (kept .2, ← load, e) (rw e at (call .ensures ss));
       words = rw e (c .placed .ensures);
+      writes = rw (kept .0, kept .1) (by-offer (call .result .window));
+      stays = rw e (offered-moves (c .before .before .before .before .before .a2 .given .0 .0) _ _ _ _);
     }
 
 pub drawbevel-core-offer-spec : {M : Type 1} → statement M

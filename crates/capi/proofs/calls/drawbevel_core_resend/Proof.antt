@@ -1,14 +1,13 @@
 use Rattle.session_statuses.specs.Answer.{resendAnswer}
+use Rattle.capi.proofs.Unchanged.{shown-said}
 use borrow.Author.Needs.{needs}
 use Rattle.capi.proofs.calls.drawbevel_core_resend.Statement.{statement}
 use Rattle.capi.proofs.calls.drawbevel_core_resend.Tie as tie
 
 returns : tie.Need-returns
-returns c k = record {
-  answer = resendAnswer (c .before .before .before .resend .result);
-  did = rw (← (c .before .before .before .before .before .load .ensures)) (c .before .before .before .resend .ensures k);
-  words = c .resent .ensures;
-}
+returns c k =
+    let call = c .before .before .before .resend in
+    shown-said (resendAnswer (call .result)) (rw (c .before .before .before .before .before .load .ensures) at (call .ensures k)) (c .resent .ensures)
 
 pub drawbevel-core-resend-spec : {M : Type 1} → statement M
 drawbevel-core-resend-spec =

@@ -1,14 +1,13 @@
 use Rattle.session_snack.specs.Answer.{snackAnswer}
+use Rattle.capi.proofs.Unchanged.{shown-said}
 use borrow.Author.Needs.{needs}
 use Rattle.capi.proofs.calls.drawbevel_core_snack.Statement.{statement}
 use Rattle.capi.proofs.calls.drawbevel_core_snack.Tie as tie
 
 returns : tie.Need-returns
-returns c k ss = record {
-  answer = snackAnswer (c .before .snack .result);
-  did = rw (← (c .before .before .load .ensures)) (c .before .snack .ensures k ss);
-  words = c .run .ensures;
-}
+returns c k ss =
+    let call = c .before .snack in
+    shown-said (snackAnswer (call .result)) (rw (c .before .before .load .ensures) at (call .ensures k ss)) (c .run .ensures)
 
 pub drawbevel-core-snack-spec : {M : Type 1} → statement M
 drawbevel-core-snack-spec = tie.close (tie.spec

@@ -1,6 +1,7 @@
 use Rattle.session_commands.specs.Answer.{takeAnswer}
+use Rattle.capi.specs.Session.{by-take}
+use Rattle.capi.proofs.Unchanged.{refused-said, taken-moves}
 use borrow.Author.Needs.{needs}
-use Rattle.capi.proofs.Unchanged.{refused-leaves}
 use Rattle.capi.proofs.calls.drawbevel_core_take.Statement.{statement}
 use Rattle.capi.proofs.calls.drawbevel_core_take.Tie as tie
 
@@ -9,21 +10,20 @@ returns c ss =
     let load = c .before .before .before .before .before .before .before .before .before .load .ensures in
     let call = c .before .before .before .before .before .before .before .take in
     let e = c .before .before .a .given .1 in
-    record {
-      answer = takeAnswer (call .result .answer);
-      did = rw (← load, e) (refused-leaves (rw e at (call .ensures ss)));
-      words = rw e (c .refused .ensures);
-    }
+    refused-said (rw (load, e) at (call .ensures ss)) (c .refused .ensures)
 
 returns-2 : tie.Need-returns-2
 returns-2 c ss =
     let load = c .before .before .before .before .before .before .before .before .before .before .before .before .load .ensures in
     let call = c .before .before .before .before .before .before .before .before .before .before .take in
     let e = c .before .before .before .before .before .a2 .given .1 in
+    let kept = c .before .store-window .ensures in
     record {
       answer = takeAnswer (call .result .answer);
-      did = rw (c .before .store-window .ensures, ← load, e) (rw e at (call .ensures ss));
+      did = rw (kept .2, ← load, e) (rw e at (call .ensures ss));
       words = rw e (c .handed-out .ensures);
+      writes = rw (kept .0, kept .1) (by-take (call .result .window));
+      stays = rw e (taken-moves (c .before .before .before .before .before .a2 .given .0 .0) _ _ _ _);
     }
 
 pub drawbevel-core-take-spec : {M : Type 1} → statement M

@@ -1,14 +1,14 @@
 use Rattle.book.specs.Book.{numbers}
+use Rattle.capi.proofs.Unchanged.{shown-said}
 use borrow.Author.Needs.{needs}
 use Rattle.capi.proofs.calls.drawbevel_core_window.Statement.{statement}
 use Rattle.capi.proofs.calls.drawbevel_core_window.Tie as tie
 
 returns : tie.Need-returns
-returns c k ss = record {
-  answer = numbers (c .before .window-numbers .result .«exp_cmd_sn») (c .before .window-numbers .result .«max_cmd_sn»);
-  did = rw (← (c .before .before .load .ensures)) (c .before .window-numbers .ensures k ss);
-  words = c .numbers .ensures;
-}
+returns c k ss =
+    let call = c .before .window-numbers in
+    let r = call .result in
+    shown-said (numbers (r .«exp_cmd_sn») (r .«max_cmd_sn»)) (rw (c .before .before .load .ensures) at (call .ensures k ss)) (c .numbers .ensures)
 
 pub drawbevel-core-window-spec : {M : Type 1} → statement M
 drawbevel-core-window-spec =

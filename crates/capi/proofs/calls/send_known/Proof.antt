@@ -1,4 +1,6 @@
 use Rattle.session_statuses.specs.Answer.{sendAnswer}
+use Rattle.capi.specs.Session.{nothing, by-send}
+use Rattle.capi.proofs.Unchanged.{refused-said}
 use borrow.Author.Needs.{needs}
 use Rattle.capi.proofs.calls.send_known.Statement.{statement}
 use Rattle.capi.proofs.calls.send_known.Tie as tie
@@ -8,11 +10,7 @@ returns c k =
     let load = c .before .before .before .before .before .before .before .before .before .before .load .ensures in
     let call = c .before .before .before .before .before .before .send in
     let e = c .before .before .f .given .1 in
-    record {
-      answer = sendAnswer (call .result);
-      did = rw (← load, e) (rw e at (call .ensures k));
-      words = rw e (c .pack-refused .ensures);
-    }
+    refused-said (rw (load, e) at (call .ensures k)) (c .pack-refused .ensures)
 
 returns-2 : tie.Need-returns-2
 returns-2 c k =
@@ -23,6 +21,8 @@ returns-2 c k =
       answer = sendAnswer (call .result);
       did = rw (← load, e) (rw e at (call .ensures k));
       words = rw e (c .pack .ensures);
+      writes = nothing;
+      stays = rw e tt;
     }
 
 returns-3 : tie.Need-returns-3
@@ -30,10 +30,13 @@ returns-3 c k =
     let load = c .before .before .before .before .before .before .before .before .before .before .before .before .load .ensures in
     let call = c .before .before .before .before .before .before .before .before .send in
     let e = c .before .before .before .before .stat-sn2 .given .1 in
+    let kept = c .before .store-ledger .ensures in
     record {
       answer = sendAnswer (call .result);
-      did = rw (c .before .store-ledger .ensures, ← load, e) (rw e at (call .ensures k));
+      did = rw (kept .1, ← load, e) (rw e at (call .ensures k));
       words = rw e (c .pack2 .ensures);
+      writes = rw (kept .0) (by-send _);
+      stays = rw e tt;
     }
 
 pub send-known-spec : {M : Type 1} → statement M

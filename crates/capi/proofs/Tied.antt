@@ -1,0 +1,320 @@
+-- Demand 3 of the functions that C links. `Learnt` is a function's contract as a caller learns it of one call, so a list of `Called` is one of
+-- calls of these functions, each on the words that the last left.
+use Prim.Native.Nat.{ℕ}
+use mathlib.Core.List.{List, [], _∷_}
+use mathlib.Core.Path.{_≡_, refl, sym, ap, ap₂, subst, _∙_}
+use denote.Ref.{now}
+use contract.Lifetimes
+use borrow.Fn.Kinds as K
+use denote.Triple.Clauses.{AtExit}
+use Rattle.window.specs.Agree.{Commands, commands}
+use Rattle.ledger.specs.Agree.{Statuses, statusesIn}
+use Rattle.book.specs.declared.Given.{Given}
+use Rattle.book.specs.Book.{Book, Outputs, outputs, noOutputs, lent, Call, offer, take, logout, opening, send, acknowledge, snack, resend, windowNumbers, Answer, refused, Step, choiceOf, freshBook}
+use Rattle.book.specs.Events.{Event, event, turnsOf}
+use Rattle.book.specs.Demand.{Demand3}
+use Rattle.book.proofs.Sentences.{demand3-booked}
+use Rattle.response_words.specs.ResponseWords.{responseOf}
+use Rattle.session_state.specs.Agree.{State, Agrees, Did}
+use Rattle.session_state.specs.History.{Ran, Booked, history}
+use Rattle.answer_words.specs.Answer.{answerWords, packed}
+use Rattle.capi.specs.Given.{openingOf, givenOf}
+use Rattle.capi.specs.Session.{SessionWords, sessionWords, stateOf, Asked, calls, sendsUnfit, sends, SaidBy, LeavesWords, unfitStep}
+use Rattle.capi.specs.History.{askedStep, AskedEvent, askedEvent, Spoken, spoken, inWords, bookSays, bookThen, andCalls, callsIn}
+use Rattle.capi.proofs.calls.drawbevel_core_fresh.Reads as fresh-r
+use Rattle.capi.proofs.calls.drawbevel_core_fresh.Kinds as fresh-k
+use Rattle.capi.proofs.calls.drawbevel_core_offer.Reads as offer-r
+use Rattle.capi.proofs.calls.drawbevel_core_offer.Kinds as offer-k
+use Rattle.capi.proofs.calls.drawbevel_core_take.Reads as take-r
+use Rattle.capi.proofs.calls.drawbevel_core_take.Kinds as take-k
+use Rattle.capi.proofs.calls.drawbevel_core_logout.Reads as logout-r
+use Rattle.capi.proofs.calls.drawbevel_core_logout.Kinds as logout-k
+use Rattle.capi.proofs.calls.drawbevel_core_open.Reads as open-r
+use Rattle.capi.proofs.calls.drawbevel_core_open.Kinds as open-k
+use Rattle.capi.proofs.calls.drawbevel_core_send.Reads as send-r
+use Rattle.capi.proofs.calls.drawbevel_core_send.Kinds as send-k
+use Rattle.capi.proofs.calls.drawbevel_core_acknowledge.Reads as acknowledge-r
+use Rattle.capi.proofs.calls.drawbevel_core_acknowledge.Kinds as acknowledge-k
+use Rattle.capi.proofs.calls.drawbevel_core_snack.Reads as snack-r
+use Rattle.capi.proofs.calls.drawbevel_core_snack.Kinds as snack-k
+use Rattle.capi.proofs.calls.drawbevel_core_resend.Reads as resend-r
+use Rattle.capi.proofs.calls.drawbevel_core_resend.Kinds as resend-k
+use Rattle.capi.proofs.calls.drawbevel_core_window.Reads as window-r
+use Rattle.capi.proofs.calls.drawbevel_core_window.Kinds as window-k
+
+-- What was asked of the words before, the words of its answer, what it lent, and the words after it.
+pub record Done : Type 0 where
+  pub asked : Asked
+  pub before : SessionWords
+  pub words : List ℕ
+  pub out : Outputs
+  pub after : SessionWords
+
+abbrev pub done : Asked → SessionWords → List ℕ → Outputs → SessionWords → Done
+done q s w o s' = record { asked = q; before = s; words = w; out = o; after = s' }
+
+-- A call of `drawbevel_core_offer`: a are its arguments, r its result, s its parameters at exit.
+pub record ByOffer (d : Done) : Type 1 where
+  pub κs : Lifetimes.Lfts 5
+  pub a : K.Dens {n = 5} κs offer-k.ps
+  pub r : K.resT offer-k.r κs .Denot
+  pub s : AtExit (K.endedOf 5 offer-k.ps offer-k.r) κs
+  pub learnt : offer-r.Learnt κs a r s
+  pub statuses-left : Statuses
+  pub is : d ≡ done (calls (offer (a .1 .1 .1 .1 .0) (a .1 .1 .1 .1 .1 .0) (now (a .1 .1 .1 .1 .1 .1 .0))))
+      (sessionWords (now (a .0)) (now (a .1 .0)) (commands (now (a .1 .1 .0)) (now (a .1 .1 .1 .0))) statuses-left) (packed r) noOutputs
+      (sessionWords (now (s .0)) (now (s .1 .0)) (commands (now (s .1 .1 .0)) (now (s .1 .1 .1 .0))) statuses-left)
+
+-- A call of `drawbevel_core_take`: a are its arguments, r its result, s its parameters at exit.
+pub record ByTake (d : Done) : Type 1 where
+  pub κs : Lifetimes.Lfts 6
+  pub a : K.Dens {n = 6} κs take-k.ps
+  pub r : K.resT take-k.r κs .Denot
+  pub s : AtExit (K.endedOf 6 take-k.ps take-k.r) κs
+  pub learnt : take-r.Learnt κs a r s
+  pub statuses-left : Statuses
+  pub is : d ≡ done (calls (take (outputs (now (a .1 .1 .1 .1 .0)))))
+      (sessionWords (now (a .0)) (now (a .1 .0)) (commands (now (a .1 .1 .0)) (now (a .1 .1 .1 .0))) statuses-left) (now (s .1 .1 .1 .1 .1 .0)) (outputs (now (s .1 .1 .1 .1 .0)))
+      (sessionWords (now (s .0)) (now (s .1 .0)) (commands (now (a .1 .1 .0)) (now (a .1 .1 .1 .0))) statuses-left)
+
+-- A call of `drawbevel_core_logout`: a are its arguments, r its result, s its parameters at exit.
+pub record ByLogout (d : Done) : Type 1 where
+  pub κs : Lifetimes.Lfts 3
+  pub a : K.Dens {n = 3} κs logout-k.ps
+  pub r : K.resT logout-k.r κs .Denot
+  pub s : AtExit (K.endedOf 3 logout-k.ps logout-k.r) κs
+  pub learnt : logout-r.Learnt κs a r s
+  pub commands-left : Commands
+  pub statuses-left : Statuses
+  pub is : d ≡ done (calls (logout (a .1 .1 .0) (a .1 .1 .1 .0)))
+      (sessionWords (now (a .0)) (now (a .1 .0)) commands-left statuses-left) (now (s .1 .1 .1 .1 .0)) noOutputs
+      (sessionWords (now (s .0)) (now (s .1 .0)) commands-left statuses-left)
+
+-- A call of `drawbevel_core_open`: a are its arguments, r its result, s its parameters at exit.
+pub record ByOpen (d : Done) : Type 1 where
+  pub κs : Lifetimes.Lfts 2
+  pub a : K.Dens {n = 2} κs open-k.ps
+  pub r : K.resT open-k.r κs .Denot
+  pub s : AtExit (K.endedOf 2 open-k.ps open-k.r) κs
+  pub learnt : open-r.Learnt κs a r s
+  pub commands-left : Commands
+  pub statuses-left : Statuses
+  pub is : d ≡ done (calls (opening (a .1 .1 .0) (openingOf (a .1 .1 .1 .0))))
+      (sessionWords (now (a .0)) (now (a .1 .0)) commands-left statuses-left) (packed r) noOutputs
+      (sessionWords (now (s .0)) (now (s .1 .0)) commands-left statuses-left)
+
+-- A call of `drawbevel_core_send`: a are its arguments, r its result, s its parameters at exit.
+pub record BySend (d : Done) : Type 1 where
+  pub κs : Lifetimes.Lfts 6
+  pub a : K.Dens {n = 6} κs send-k.ps
+  pub r : K.resT send-k.r κs .Denot
+  pub s : AtExit (K.endedOf 6 send-k.ps send-k.r) κs
+  pub learnt : send-r.Learnt κs a r s
+  pub commands-left : Commands
+  pub is : d ≡ done (sends (responseOf (now (a .1 .1 .1 .1 .1 .1 .0))) (a .1 .1 .1 .1 .0) (a .1 .1 .1 .1 .1 .0) (outputs (now (a .1 .1 .1 .1 .1 .1 .1 .0))))
+      (sessionWords (now (a .0)) (now (a .1 .0)) commands-left (statusesIn (now (a .1 .1 .0)) (now (a .1 .1 .1 .0)))) (packed r) (outputs (now (s .1 .1 .1 .1 .1 .1 .1 .0)))
+      (sessionWords (now (s .0)) (now (s .1 .0)) commands-left (statusesIn (now (s .1 .1 .0)) (now (s .1 .1 .1 .0))))
+
+-- A call of `drawbevel_core_acknowledge`: a are its arguments, r its result, s its parameters at exit.
+pub record ByAcknowledge (d : Done) : Type 1 where
+  pub κs : Lifetimes.Lfts 2
+  pub a : K.Dens {n = 2} κs acknowledge-k.ps
+  pub r : K.resT acknowledge-k.r κs .Denot
+  pub s : AtExit (K.endedOf 2 acknowledge-k.ps acknowledge-k.r) κs
+  pub learnt : acknowledge-r.Learnt κs a r s
+  pub commands-left : Commands
+  pub statuses-left : Statuses
+  pub is : d ≡ done (calls (acknowledge (a .1 .1 .0) (a .1 .1 .1 .0)))
+      (sessionWords (now (a .0)) (now (a .1 .0)) commands-left statuses-left) (packed r) noOutputs
+      (sessionWords (now (s .0)) (now (s .1 .0)) commands-left statuses-left)
+
+-- A call of `drawbevel_core_snack`: a are its arguments, r its result, s its parameters at exit.
+pub record BySnack (d : Done) : Type 1 where
+  pub κs : Lifetimes.Lfts 4
+  pub a : K.Dens {n = 4} κs snack-k.ps
+  pub r : K.resT snack-k.r κs .Denot
+  pub s : AtExit (K.endedOf 4 snack-k.ps snack-k.r) κs
+  pub learnt : snack-r.Learnt κs a r s
+  pub commands-left : Commands
+  pub statuses-left : Statuses
+  pub is : d ≡ done (calls (snack (a .1 .1 .0) (now (a .1 .1 .1 .0))))
+      (sessionWords (now (a .0)) (now (a .1 .0)) commands-left statuses-left) (now (s .1 .1 .1 .1 .0)) noOutputs
+      (sessionWords (now (a .0)) (now (a .1 .0)) commands-left statuses-left)
+
+-- A call of `drawbevel_core_resend`: a are its arguments, r its result, s its parameters at exit.
+pub record ByResend (d : Done) : Type 1 where
+  pub κs : Lifetimes.Lfts 5
+  pub a : K.Dens {n = 5} κs resend-k.ps
+  pub r : K.resT resend-k.r κs .Denot
+  pub s : AtExit (K.endedOf 5 resend-k.ps resend-k.r) κs
+  pub learnt : resend-r.Learnt κs a r s
+  pub commands-left : Commands
+  pub is : d ≡ done (calls (resend (a .1 .1 .1 .1 .0) (a .1 .1 .1 .1 .1 .0) (outputs (now (a .1 .1 .1 .1 .1 .1 .0)))))
+      (sessionWords (now (a .0)) (now (a .1 .0)) commands-left (statusesIn (now (a .1 .1 .0)) (now (a .1 .1 .1 .0)))) (packed r) (outputs (now (s .1 .1 .1 .1 .1 .1 .0)))
+      (sessionWords (now (a .0)) (now (a .1 .0)) commands-left (statusesIn (now (a .1 .1 .0)) (now (a .1 .1 .1 .0))))
+
+-- A call of `drawbevel_core_window`: a are its arguments, r its result, s its parameters at exit.
+pub record ByNumbers (d : Done) : Type 1 where
+  pub κs : Lifetimes.Lfts 3
+  pub a : K.Dens {n = 3} κs window-k.ps
+  pub r : K.resT window-k.r κs .Denot
+  pub s : AtExit (K.endedOf 3 window-k.ps window-k.r) κs
+  pub learnt : window-r.Learnt κs a r s
+  pub commands-left : Commands
+  pub statuses-left : Statuses
+  pub is : d ≡ done (calls windowNumbers)
+      (sessionWords (now (a .0)) (now (a .1 .0)) commands-left statuses-left) (now (s .1 .1 .0)) noOutputs
+      (sessionWords (now (a .0)) (now (a .1 .0)) commands-left statuses-left)
+
+-- What was asked was asked of its own function: each case of `Call` has one, and words that are no response go to that of a send. The arrays
+-- that a function is not lent stay ("written by nobody else").
+abbrev pub CalledBy : Call → Done → Type 1
+CalledBy (offer c t p) d = ByOffer d
+CalledBy (take o) d = ByTake d
+CalledBy (logout c r) d = ByLogout d
+CalledBy (opening c g) d = ByOpen d
+CalledBy (send c t r o) d = BySend d
+CalledBy (acknowledge c e) d = ByAcknowledge d
+CalledBy (snack c p) d = BySnack d
+CalledBy (resend c n o) d = ByResend d
+CalledBy windowNumbers d = ByNumbers d
+
+abbrev pub AskedBy : Asked → Done → Type 1
+AskedBy (calls c) d = CalledBy c d
+AskedBy (sendsUnfit c n o) d = BySend d
+
+abbrev pub Called : Done → Type 1
+Called d = AskedBy (d .asked) d
+
+-- "each on the state that the last left"
+pub data Calls : SessionWords → List Spoken → SessionWords → Type 1 where
+  end : {s : SessionWords} → Calls s [] s
+  then : {s s' s'' : SessionWords} {q : Asked} {w : List ℕ} {o : Outputs} {es : List Spoken} → Called (done q s w o s') → Calls s' es s'' → Calls s (spoken q w o ∷ es) s''
+
+-- ---- what each call ensures
+
+abbrev pub SaidIt : Done → Type 0
+SaidIt d = SaidBy (d .asked) (d .before) (d .words) (d .out) (d .after)
+
+by-send : (d : Done) → BySend d → SaidIt d
+by-send d x = subst SaidIt (sym (x .is)) (x .learnt (x .commands-left))
+
+pub called-said : (c : Call) (d : Done) → CalledBy c d → SaidIt d
+called-said (offer c t p) d x = subst SaidIt (sym (x .is)) (x .learnt (x .statuses-left))
+called-said (take o) d x = subst SaidIt (sym (x .is)) (x .learnt (x .statuses-left))
+called-said (logout c r) d x = subst SaidIt (sym (x .is)) (x .learnt (x .commands-left) (x .statuses-left))
+called-said (opening c g) d x = subst SaidIt (sym (x .is)) (x .learnt (x .commands-left) (x .statuses-left))
+called-said (send c t r o) d x = by-send d x
+called-said (acknowledge c e) d x = subst SaidIt (sym (x .is)) (x .learnt (x .commands-left) (x .statuses-left))
+called-said (snack c p) d x = subst SaidIt (sym (x .is)) (x .learnt (x .commands-left) (x .statuses-left))
+called-said (resend c n o) d x = subst SaidIt (sym (x .is)) (x .learnt (x .commands-left))
+called-said windowNumbers d x = subst SaidIt (sym (x .is)) (x .learnt (x .commands-left) (x .statuses-left))
+
+pub asked-said : (q : Asked) (d : Done) → AskedBy q d → SaidIt d
+asked-said (calls c) d x = called-said c d x
+asked-said (sendsUnfit c n o) d x = by-send d x
+
+-- ---- the answers of a list of calls
+
+abbrev pub answerBy : (q : Asked) (s : SessionWords) (w : List ℕ) (o : Outputs) (s' : SessionWords) → SaidBy q s w o s' → Answer
+answerBy (calls c) s w o s' x = x .answer
+answerBy (sendsUnfit c n l) s w o s' x = refused (x .number)
+
+words-by : (q : Asked) (s : SessionWords) (w : List ℕ) (o : Outputs) (s' : SessionWords) (x : SaidBy q s w o s') → w ≡ answerWords (answerBy q s w o s' x)
+words-by (calls c) s w o s' x = x .words
+words-by (sendsUnfit c n l) s w o s' x = x .words
+
+-- What was asked, with the answers themselves.
+unfoldable pub answered : {s s' : SessionWords} {es : List Spoken} → Calls s es s' → List AskedEvent
+answered end = []
+answered (then {s = s} {s' = s'} {q = q} {w = w} {o = o} p r) = askedEvent q (answerBy q s w o s' (asked-said q (done q s w o s') p)) o ∷ answered r
+
+-- What C sees are the words of these answers.
+pub spoken-words : {s s' : SessionWords} {es : List Spoken} (r : Calls s es s') → es ≡ inWords (answered r)
+unfolding inWords answered
+spoken-words end = refl
+spoken-words (then {s = s} {s' = s'} {q = q} {w = w} {o = o} p r) =
+    ap₂ _∷_ (ap (λ (x : List ℕ). spoken q x o) (words-by q s w o s' (asked-said q (done q s w o s') p))) (spoken-words r)
+
+-- ---- the book's answers
+
+record StepBy (q : Asked) (b : Book) (a : Answer) (o : Outputs) (s' : SessionWords) : Type 0 where
+  pub answer : a ≡ askedStep b q (choiceOf a) .answer
+  pub out : o ≡ askedStep b q (choiceOf a) .out
+  pub agrees : Agrees (stateOf s') (askedStep b q (choiceOf a) .book)
+
+step-by : (q : Asked) (s : SessionWords) (w : List ℕ) (o : Outputs) (s' : SessionWords) (x : SaidBy q s w o s') (b : Book) → Agrees (stateOf s) b → StepBy q b (answerBy q s w o s' x) o s'
+unfolding askedStep
+step-by (calls c) s w o s' x b g = let m = x .did .meets b g in record { answer = m .answer; out = m .out; agrees = m .agrees }
+step-by (sendsUnfit c n l) s w o s' x b g =
+    let e = x .meets b g in
+    record {
+      answer = sym (ap (λ (y : Step). y .answer) e);
+      out = x .stays .1 ∙ sym (ap (λ (y : Step). y .out) e);
+      agrees = subst (λ (z : SessionWords). Agrees (stateOf z) (unfitStep b c n l .book)) (sym (x .stays .0)) (subst (Agrees (stateOf s)) (sym (ap (λ (y : Step). y .book) e)) g);
+    }
+
+-- The answers are the book's, and the words after them stand for the book after them.
+pub record BookedWords (b : Book) (es : List AskedEvent) (s : SessionWords) : Type 0 where
+  pub answers : es ≡ bookSays b es
+  pub agrees : Agrees (stateOf s) (bookThen b es)
+
+booked-from : {s s' : SessionWords} {es : List Spoken} (r : Calls s es s') (b : Book) → Agrees (stateOf s) b → BookedWords b (answered r) s'
+unfolding answered bookSays bookThen
+booked-from end b g = record { answers = refl; agrees = g }
+booked-from (then {s = s} {s' = s'} {q = q} {w = w} {o = o} p r) b g =
+    let m = step-by q s w o s' (asked-said q (done q s w o s') p) b g in
+    let rest = booked-from r _ (m .agrees) in
+    record { answers = ap₂ _∷_ (ap₂ (askedEvent q) (m .answer) (m .out)) (rest .answers); agrees = rest .agrees }
+
+-- ---- the calls among them
+
+next-by : (q : Asked) (s : SessionWords) (w : List ℕ) (o : Outputs) (s' : SessionWords) (x : SaidBy q s w o s') (es : List Event) (t : State)
+    → Ran (stateOf s') es t → Ran (stateOf s) (andCalls q (answerBy q s w o s' x) o es) t
+next-by (calls c) s w o s' x es t r = Ran.next (x .did) r
+next-by (sendsUnfit c n l) s w o s' x es t r = subst (λ (z : SessionWords). Ran (stateOf z) es t) (x .stays .0) r
+
+as-ran : {s s' : SessionWords} {es : List Spoken} (r : Calls s es s') → Ran (stateOf s) (callsIn (answered r)) (stateOf s')
+unfolding answered callsIn
+as-ran end = Ran.done
+as-ran (then {s = s} {s' = s'} {s'' = t} {q = q} {w = w} {o = o} p r) =
+    next-by q s w o s' (asked-said q (done q s w o s') p) (callsIn (answered r)) (stateOf t) (as-ran r)
+
+-- ---- what a refusal leaves, from any words at all
+
+abbrev pub lentBy : Asked → Outputs
+lentBy (calls c) = lent c
+lentBy (sendsUnfit c n l) = l
+
+-- At each refused event every word and byte after it is the one before it.
+abbrev pub EachLeft : {s s' : SessionWords} {es : List Spoken} → Calls s es s' → Type 0
+EachLeft end = Unit {0}
+EachLeft (then {s = s} {s' = s'} {q = q} {w = w} {o = o} p r) =
+    LeavesWords (answerBy q s w o s' (asked-said q (done q s w o s') p)) s s' (lentBy q) o × EachLeft r
+
+left-by : (q : Asked) (s : SessionWords) (w : List ℕ) (o : Outputs) (s' : SessionWords) (x : SaidBy q s w o s') → LeavesWords (answerBy q s w o s' x) s s' (lentBy q) o
+left-by (calls c) s w o s' x = x .stays
+left-by (sendsUnfit c n l) s w o s' x = x .stays
+
+pub refusals-leave : {s s' : SessionWords} {es : List Spoken} (r : Calls s es s') → EachLeft r
+refusals-leave end = tt
+refusals-leave (then {s = s} {s' = s'} {q = q} {w = w} {o = o} p r) = (left-by q s w o s' (asked-said q (done q s w o s') p), refusals-leave r)
+
+-- ---- from a fresh session, as the contract of `drawbevel_core_fresh` has it: a is what it was given, e what it was lent, at exit
+
+module _ (κs : Lifetimes.Lfts 6) (a : K.Dens {n = 6} κs fresh-k.ps) (w : K.resT fresh-k.r κs .Denot) (e : AtExit (K.endedOf 6 fresh-k.ps fresh-k.r) κs)
+    (p : fresh-r.Learnt κs a w e) {s : SessionWords} {es : List Spoken}
+    (r : Calls (sessionWords (now (e .0)) (now (e .1 .0)) (commands (now (e .1 .1 .0)) (now (e .1 .1 .1 .0)))
+    (statusesIn (now (e .1 .1 .1 .1 .0)) (now (e .1 .1 .1 .1 .1 .0)))) es s) where
+  abbrev given : Given
+  given = givenOf (a .1 .1 .1 .1 .1 .1 .0) (a .1 .1 .1 .1 .1 .1 .1 .0) (a .1 .1 .1 .1 .1 .1 .1 .1 .0)
+
+  -- "every answer is that of document 01's book", in words, those to words that are no response too; and every lent output is the book's
+  pub booked : BookedWords (freshBook given) (answered r) s
+  booked = booked-from r (freshBook given) (p .fresh .agrees)
+
+  -- Demand 3, sentence by sentence, which names no book
+  pub demand3 : Demand3 given (callsIn (answered r))
+  demand3 =
+      let b = history (as-ran r) (freshBook given) (p .fresh .agrees) in
+      subst (Demand3 given) (sym (b .events)) (demand3-booked given (turnsOf (callsIn (answered r))))
