@@ -42,6 +42,8 @@ pub enum Fault {
     IsidCut,
     /// FIELD before TOOLONG in writing.
     FieldBeforeTooLong,
+    /// A send looks at its response before its connection.
+    ResponseBeforeConnection,
     /// A byte after the header is written.
     WritesAfterHeader,
     /// A refusal writes a byte.
@@ -124,7 +126,7 @@ pub enum Fault {
 
 impl Fault {
     /// Every fault.
-    pub const ALL: [Fault; 54] = [
+    pub const ALL: [Fault; 55] = [
         Fault::OpcodeBeforeShort,
         Fault::LengthBeforeTooLong,
         Fault::PadWordTooMany,
@@ -140,6 +142,7 @@ impl Fault {
         Fault::NsgDropped,
         Fault::IsidCut,
         Fault::FieldBeforeTooLong,
+        Fault::ResponseBeforeConnection,
         Fault::WritesAfterHeader,
         Fault::WritesOnRefusal,
         Fault::BehindIsPassed,

@@ -74,6 +74,25 @@ impl<E: Engine + Clone> Broken<E> {
         shown
     }
 
+    /// A send's answer, writing's refusals before those of the connection where that is the fault.
+    pub(super) fn judged_first(
+        &self,
+        response: &Response,
+        answer: Result<u32, Refusal>,
+    ) -> Result<u32, Refusal> {
+        let is_of_connection = matches!(answer, Err(Refusal::NoConn | Refusal::Closed));
+        if !(self.is(Fault::ResponseBeforeConnection) && is_of_connection) {
+            return answer;
+        }
+        let numbers = Numbers {
+            stat_sn: 0,
+            exp_cmd_sn: 0,
+            max_cmd_sn: 0,
+        };
+        let written = self.inner.write(&mut [0; HEADER_BYTES], numbers, response);
+        written.and(answer)
+    }
+
     /// What the fault does to a header that was written, and to what is lent with a refusal.
     pub(super) fn spoil<T>(&self, out: &mut [u8], answer: &Result<T, Refusal>) {
         match (self.fault, answer) {

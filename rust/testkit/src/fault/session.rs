@@ -138,9 +138,9 @@ impl<E: Engine + Clone> Engine for Broken<E> {
         };
         let before = out.to_vec();
         let inner = self.inner.clone();
-        let mut answer = self
-            .inner
-            .send(self.connection(connection), ticket, out, &shown);
+        let target = self.connection(connection);
+        let answer = self.inner.send(target, ticket, out, &shown);
+        let mut answer = self.judged_first(&shown, answer);
         if too_many && answer.is_ok() {
             out.copy_from_slice(&before);
             self.inner = inner;

@@ -16,6 +16,7 @@ checks![
     trap_34_level_0,
     trap_35_a_reopened_connection,
     order_of_refusals,
+    a_send_looks_at_its_connection_before_its_response,
     snack_kinds,
     the_stat_sn_wraps,
     later_bytes_stay,
@@ -248,6 +249,30 @@ fn order_of_refusals(e: &mut dyn Engine) {
     assert_eq!(e.snack(0, &[]), Err(Refusal::Length));
     assert_eq!(e.snack(0, &snack(4, 0, 0).0), Err(Refusal::Field));
     assert_eq!((short, out), ([FILL; 47], [FILL; 48]));
+}
+
+fn a_send_looks_at_its_connection_before_its_response(e: &mut dyn Engine) {
+    holding(e, 0, 10, 32);
+    let both = |data_segment_length| Response::Scsi {
+        overflow: true,
+        underflow: true,
+        response: 0,
+        status: 0,
+        data_segment_length,
+        itt: 1,
+        snack_tag: 0,
+        residual: 0,
+    };
+    for (length, refusal) in [(8192, Refusal::Field), (8193, Refusal::TooLong)] {
+        let (mut short, mut out) = ([FILL; 47], [FILL; 48]);
+        let response = both(length);
+        assert_eq!(e.send(4, 1, &mut short, &response), Err(Refusal::Buffer));
+        assert_eq!(e.send(4, 1, &mut out, &response), Err(Refusal::NoConn));
+        assert_eq!(e.send(3, 1, &mut out, &response), Err(Refusal::Closed));
+        // Connection 0 is full, which comes last.
+        assert_eq!(e.send(0, 1, &mut out, &response), Err(refusal));
+        assert_eq!((short, out), ([FILL; 47], [FILL; 48]));
+    }
 }
 
 fn snack_kinds(e: &mut dyn Engine) {
