@@ -74,7 +74,8 @@ pub record ByTake (d : Done) : Type 1 where
   pub learnt : take-r.Learnt κs a r s
   pub statuses-left : Statuses
   pub is : d ≡ done (calls (take (outputs (now (a .1 .1 .1 .1 .0)))))
-      (sessionWords (now (a .0)) (now (a .1 .0)) (commands (now (a .1 .1 .0)) (now (a .1 .1 .1 .0))) statuses-left) (now (s .1 .1 .1 .1 .1 .0)) (outputs (now (s .1 .1 .1 .1 .0)))
+      (sessionWords (now (a .0)) (now (a .1 .0)) (commands (now (a .1 .1 .0)) (now (a .1 .1 .1 .0))) statuses-left)
+      (now (s .1 .1 .1 .1 .1 .0)) (outputs (now (s .1 .1 .1 .1 .0)))
       (sessionWords (now (s .0)) (now (s .1 .0)) (commands (now (a .1 .1 .0)) (now (a .1 .1 .1 .0))) statuses-left)
 
 -- A call of `drawbevel_core_logout`: a are its arguments, r its result, s its parameters at exit.
@@ -112,7 +113,8 @@ pub record BySend (d : Done) : Type 1 where
   pub learnt : send-r.Learnt κs a r s
   pub commands-left : Commands
   pub is : d ≡ done (sends (responseOf (now (a .1 .1 .1 .1 .1 .1 .0))) (a .1 .1 .1 .1 .0) (a .1 .1 .1 .1 .1 .0) (outputs (now (a .1 .1 .1 .1 .1 .1 .1 .0))))
-      (sessionWords (now (a .0)) (now (a .1 .0)) commands-left (statusesIn (now (a .1 .1 .0)) (now (a .1 .1 .1 .0)))) (packed r) (outputs (now (s .1 .1 .1 .1 .1 .1 .1 .0)))
+      (sessionWords (now (a .0)) (now (a .1 .0)) commands-left (statusesIn (now (a .1 .1 .0)) (now (a .1 .1 .1 .0))))
+      (packed r) (outputs (now (s .1 .1 .1 .1 .1 .1 .1 .0)))
       (sessionWords (now (s .0)) (now (s .1 .0)) commands-left (statusesIn (now (s .1 .1 .0)) (now (s .1 .1 .1 .0))))
 
 -- A call of `drawbevel_core_acknowledge`: a are its arguments, r its result, s its parameters at exit.
@@ -150,7 +152,8 @@ pub record ByResend (d : Done) : Type 1 where
   pub learnt : resend-r.Learnt κs a r s
   pub commands-left : Commands
   pub is : d ≡ done (calls (resend (a .1 .1 .1 .1 .0) (a .1 .1 .1 .1 .1 .0) (outputs (now (a .1 .1 .1 .1 .1 .1 .0)))))
-      (sessionWords (now (a .0)) (now (a .1 .0)) commands-left (statusesIn (now (a .1 .1 .0)) (now (a .1 .1 .1 .0)))) (packed r) (outputs (now (s .1 .1 .1 .1 .1 .1 .0)))
+      (sessionWords (now (a .0)) (now (a .1 .0)) commands-left (statusesIn (now (a .1 .1 .0)) (now (a .1 .1 .1 .0))))
+      (packed r) (outputs (now (s .1 .1 .1 .1 .1 .1 .0)))
       (sessionWords (now (a .0)) (now (a .1 .0)) commands-left (statusesIn (now (a .1 .1 .0)) (now (a .1 .1 .1 .0))))
 
 -- A call of `drawbevel_core_window`: a are its arguments, r its result, s its parameters at exit.
@@ -189,7 +192,8 @@ Called d = AskedBy (d .asked) d
 -- "each on the state that the last left"
 pub data Calls : SessionWords → List Spoken → SessionWords → Type 1 where
   end : {s : SessionWords} → Calls s [] s
-  then : {s s' s'' : SessionWords} {q : Asked} {w : List ℕ} {o : Outputs} {es : List Spoken} → Called (done q s w o s') → Calls s' es s'' → Calls s (spoken q w o ∷ es) s''
+  then : {s s' s'' : SessionWords} {q : Asked} {w : List ℕ} {o : Outputs} {es : List Spoken}
+      → Called (done q s w o s') → Calls s' es s'' → Calls s (spoken q w o ∷ es) s''
 
 -- ---- what each call ensures
 
@@ -243,7 +247,8 @@ record StepBy (q : Asked) (b : Book) (a : Answer) (o : Outputs) (s' : SessionWor
   pub out : o ≡ askedStep b q (choiceOf a) .out
   pub agrees : Agrees (stateOf s') (askedStep b q (choiceOf a) .book)
 
-step-by : (q : Asked) (s : SessionWords) (w : List ℕ) (o : Outputs) (s' : SessionWords) (x : SaidBy q s w o s') (b : Book) → Agrees (stateOf s) b → StepBy q b (answerBy q s w o s' x) o s'
+step-by : (q : Asked) (s : SessionWords) (w : List ℕ) (o : Outputs) (s' : SessionWords) (x : SaidBy q s w o s') (b : Book)
+    → Agrees (stateOf s) b → StepBy q b (answerBy q s w o s' x) o s'
 unfolding askedStep
 step-by (calls c) s w o s' x b g = let m = x .did .meets b g in record { answer = m .answer; out = m .out; agrees = m .agrees }
 step-by (sendsUnfit c n l) s w o s' x b g =
@@ -251,7 +256,8 @@ step-by (sendsUnfit c n l) s w o s' x b g =
     record {
       answer = sym (ap (λ (y : Step). y .answer) e);
       out = x .stays .1 ∙ sym (ap (λ (y : Step). y .out) e);
-      agrees = subst (λ (z : SessionWords). Agrees (stateOf z) (unfitStep b c n l .book)) (sym (x .stays .0)) (subst (Agrees (stateOf s)) (sym (ap (λ (y : Step). y .book) e)) g);
+      agrees = subst (λ (z : SessionWords). Agrees (stateOf z) (unfitStep b c n l .book)) (sym (x .stays .0))
+          (subst (Agrees (stateOf s)) (sym (ap (λ (y : Step). y .book) e)) g);
     }
 
 -- The answers are the book's, and the words after them stand for the book after them.
@@ -292,7 +298,8 @@ EachLeft end = Unit {0}
 EachLeft (then {s = s} {s' = s'} {q = q} {w = w} {o = o} p r) =
     LeavesWords (answerBy q s w o s' (asked-said q (done q s w o s') p)) s s' (lentBy q) o × EachLeft r
 
-left-by : (q : Asked) (s : SessionWords) (w : List ℕ) (o : Outputs) (s' : SessionWords) (x : SaidBy q s w o s') → LeavesWords (answerBy q s w o s' x) s s' (lentBy q) o
+left-by : (q : Asked) (s : SessionWords) (w : List ℕ) (o : Outputs) (s' : SessionWords) (x : SaidBy q s w o s')
+    → LeavesWords (answerBy q s w o s' x) s s' (lentBy q) o
 left-by (calls c) s w o s' x = x .stays
 left-by (sendsUnfit c n l) s w o s' x = x .stays
 

@@ -48,7 +48,8 @@ still (run f n) call s o d = tt
 still (resent t) call s o d = tt
 still (numbers e m) call s o d = tt
 
-pub shown-said : {call : Call} {s : SessionWords} {o : Outputs} {w : List ℕ} (a : Answer) → Did call (stateOf s) a o (stateOf s) → w ≡ answerWords a → Said call s w o s
+pub shown-said : {call : Call} {s : SessionWords} {o : Outputs} {w : List ℕ} (a : Answer)
+    → Did call (stateOf s) a o (stateOf s) → w ≡ answerWords a → Said call s w o s
 shown-said {call} {s} {o} a d e = record { answer = a; did = d; words = e; writes = nothing; stays = still a call s o d }
 
 -- what the window answers to an offer or a take is no refusal

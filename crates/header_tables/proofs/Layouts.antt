@@ -101,7 +101,8 @@ bit-lt true = lit< tt
 bit-lt false = lit< tt
 
 -- a response that is not refused fits its table
-pub response-fits : (max : ℕ) (r : Response) (n : Numbers) → refusalIn max r ≡ 0 → ResponseFits r → NumbersFit n → Fits (tableOf (responseKind r)) (values r n)
+pub response-fits : (max : ℕ) (r : Response) (n : Numbers)
+    → refusalIn max r ≡ 0 → ResponseFits r → NumbersFit n → Fits (tableOf (responseKind r)) (values r n)
 response-fits max (R.NopIn r) n e f g = omega (arith, unrefused max (R.NopIn r) e .0)
 response-fits max (R.ScsiResponse r) n e f g = (omega arith, (omega (arith, bit-lt (r .overflow), bit-lt (r .underflow)), omega (arith, unrefused max (R.ScsiResponse r) e .0)))
 response-fits max (R.TaskManagementResponse r) n e f g = omega arith

@@ -61,7 +61,8 @@ no-answer (W.Refused f) t e = refl
 no-answer (W.Accepted a) t e = let z : _≡_ {A = ℕ} 0 1 = cc in absurd (omega arith)
 
 -- a refusal leaves the gather area and the text output
-pub areas-left : (b m : LoginBook) (c : Call) (a : A.Answer) (g t : List ℕ) → _≡_ {A = Outcome} (record { book = m; answer = answerOf a t; gather = g; text = t }) (stepOf b c)
+pub areas-left : (b m : LoginBook) (c : Call) (a : A.Answer) (g t : List ℕ)
+    → _≡_ {A = Outcome} (record { book = m; answer = answerOf a t; gather = g; text = t }) (stepOf b c)
     → changesNothing a ≡ true → (g ≡ c .gather) × (t ≡ c .text)
 areas-left b m c a g t o e =
     let s = promised b c .bytes-stay (sym (ap (λ (x : Outcome). accepted (x .answer)) o) ∙ no-answer a t e) in

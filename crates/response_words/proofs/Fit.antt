@@ -21,12 +21,14 @@ module _ (w : List ℕ) where
   pub logout-words : logoutResponseFits w ≡ true → (Within 8 1 × Within 32 2) × (Within 16 3 × Within 16 4)
   logout-words e = four w 8 1 32 2 16 3 16 4 e
 
-  pub scsi-words : scsiResponseFits w ≡ true → ((Within 1 1 × Within 1 2) × (Within 8 3 × Within 8 4)) × ((Within 32 5 × Within 32 6) × (Within 32 7 × Within 32 8))
+  pub scsi-words : scsiResponseFits w ≡ true
+      → ((Within 1 1 × Within 1 2) × (Within 8 3 × Within 8 4)) × ((Within 32 5 × Within 32 6) × (Within 32 7 × Within 32 8))
   scsi-words e =
       let p = both ((fits w 1 1 && fits w 1 2) && (fits w 8 3 && fits w 8 4)) ((fits w 32 5 && fits w 32 6) && (fits w 32 7 && fits w 32 8)) e in
       (four w 1 1 1 2 8 3 8 4 (p .0), four w 32 5 32 6 32 7 32 8 (p .1))
 
-  pub login-words : loginResponseFits w ≡ true → ((Within 1 1 × Within 8 2) × (Within 8 3 × Within 32 4)) × ((Within 16 6 × Within 32 7) × (Within 8 8 × Within 8 9))
+  pub login-words : loginResponseFits w ≡ true
+      → ((Within 1 1 × Within 8 2) × (Within 8 3 × Within 32 4)) × ((Within 16 6 × Within 32 7) × (Within 8 8 × Within 8 9))
   login-words e =
       let p = both ((fits w 1 1 && fits w 8 2) && (fits w 8 3 && fits w 32 4)) ((fits w 16 6 && fits w 32 7) && (fits w 8 8 && fits w 8 9)) e in
       (four w 1 1 8 2 8 3 32 4 (p .0), four w 16 6 32 7 8 8 8 9 (p .1))

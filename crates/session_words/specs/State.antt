@@ -59,7 +59,8 @@ ledgerNumbers c l n = pick (ltb c connections) (set (set n (connPlace c + 1) (l 
 -- of a connection, its three
 unfoldable pub connNumbers : ℕ → Conn → List ℕ → List ℕ
 connNumbers c k n =
-    pick (ltb c connections) (set (set (set n (connPlace c) (flagWord (k .«is_open»))) (connPlace c + 1) (k .ledger .next)) (connPlace c + 2) (k .ledger .held)) n
+    pick (ltb c connections)
+    (set (set (set n (connPlace c) (flagWord (k .«is_open»))) (connPlace c + 1) (k .ledger .next)) (connPlace c + 2) (k .ledger .held)) n
 
 -- of connections that are closed, the first
 unfoldable pub shutNumbers : Closes → ℕ → List ℕ → List ℕ

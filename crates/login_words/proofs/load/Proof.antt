@@ -11,22 +11,26 @@ use Rattle.login_words.proofs.load.Tie as tie
 cast-stage : tie.Need-cast-t34
 cast-stage c =
     let d = c .before .before .before in
-    omega (arith, fitting (now (d .before .before .before .before .before .before .before .before .args .n)) (sym (d .before .numbers-fit .ensures) ∙ d .if1 .taken) .0)
+    let fit = sym (d .before .numbers-fit .ensures) ∙ d .if1 .taken in
+    omega (arith, fitting (now (d .before .before .before .before .before .before .before .before .args .n)) fit .0)
 
 cast-tsih : tie.Need-cast-t38
 cast-tsih c =
     let d = c .before .before .before .before in
-    omega (arith, fitting (now (d .before .before .before .before .before .before .before .before .args .n)) (sym (d .before .numbers-fit .ensures) ∙ d .if1 .taken) .1 .0)
+    let fit = sym (d .before .numbers-fit .ensures) ∙ d .if1 .taken in
+    omega (arith, fitting (now (d .before .before .before .before .before .before .before .before .args .n)) fit .1 .0)
 
 cast-cid : tie.Need-cast-t39
 cast-cid c =
     let d = c .before .before .before .before in
-    omega (arith, fitting (now (d .before .before .before .before .before .before .before .before .args .n)) (sym (d .before .numbers-fit .ensures) ∙ d .if1 .taken) .1 .1)
+    let fit = sym (d .before .numbers-fit .ensures) ∙ d .if1 .taken in
+    omega (arith, fitting (now (d .before .before .before .before .before .before .before .before .args .n)) fit .1 .1)
 
 cast-gathered : tie.Need-cast-t40
 cast-gathered c =
     let d = c .before .before .before .before in
-    omega (arith, fitting (now (d .before .before .before .before .before .before .before .before .args .n)) (sym (d .before .numbers-fit .ensures) ∙ d .if1 .taken) .2)
+    let fit = sym (d .before .numbers-fit .ensures) ∙ d .if1 .taken in
+    omega (arith, fitting (now (d .before .before .before .before .before .before .before .before .args .n)) fit .2)
 
 returns : tie.Need-returns
 unfolding loginOf

@@ -6,22 +6,34 @@ use Rattle.response_words.proofs.scsi_response.Statement.{statement}
 use Rattle.response_words.proofs.scsi_response.Tie as tie
 
 cast-code : tie.Need-cast-t45
-cast-code c = omega (arith, scsi-words (now (c .before .before .before .before .before .before .before .before .before .args .w)) (c .if1 .taken) .0 .1 .0)
+cast-code c =
+    let d = c .before .before .before .before in
+    omega (arith, scsi-words (now (d .before .before .before .before .before .args .w)) (c .if1 .taken) .0 .1 .0)
 
 cast-status : tie.Need-cast-t46
-cast-status c = omega (arith, scsi-words (now (c .before .before .before .before .before .before .before .before .before .args .w)) (c .if1 .taken) .0 .1 .1)
+cast-status c =
+    let d = c .before .before .before .before in
+    omega (arith, scsi-words (now (d .before .before .before .before .before .args .w)) (c .if1 .taken) .0 .1 .1)
 
 cast-stated : tie.Need-cast-t47
-cast-stated c = omega (arith, scsi-words (now (c .before .before .before .before .before .before .before .before .before .args .w)) (c .if1 .taken) .1 .0 .0)
+cast-stated c =
+    let d = c .before .before .before .before in
+    omega (arith, scsi-words (now (d .before .before .before .before .before .args .w)) (c .if1 .taken) .1 .0 .0)
 
 cast-itt : tie.Need-cast-t48
-cast-itt c = omega (arith, scsi-words (now (c .before .before .before .before .before .before .before .before .before .args .w)) (c .if1 .taken) .1 .0 .1)
+cast-itt c =
+    let d = c .before .before .before .before in
+    omega (arith, scsi-words (now (d .before .before .before .before .before .args .w)) (c .if1 .taken) .1 .0 .1)
 
 cast-tag : tie.Need-cast-t49
-cast-tag c = omega (arith, scsi-words (now (c .before .before .before .before .before .before .before .before .before .args .w)) (c .if1 .taken) .1 .1 .0)
+cast-tag c =
+    let d = c .before .before .before .before in
+    omega (arith, scsi-words (now (d .before .before .before .before .before .args .w)) (c .if1 .taken) .1 .1 .0)
 
 cast-residual : tie.Need-cast-t50
-cast-residual c = omega (arith, scsi-words (now (c .before .before .before .before .before .before .before .before .before .args .w)) (c .if1 .taken) .1 .1 .1)
+cast-residual c =
+    let d = c .before .before .before .before in
+    omega (arith, scsi-words (now (d .before .before .before .before .before .args .w)) (c .if1 .taken) .1 .1 .1)
 
 returns : tie.Need-returns
 returns c = rw (c .if1 .taken)
@@ -32,5 +44,6 @@ returns-2 c = rw (c .if1 .left)
 pub scsi-response-spec : {M : Type 1} → statement M
 scsi-response-spec =
     tie.close (tie.spec
-    (λ c. search needs) (λ c. search needs) (λ c. search needs) (λ c. search needs) (λ c. search needs) (λ c. search needs) (λ c. search needs) (λ c. search needs)
+    (λ c. search needs) (λ c. search needs) (λ c. search needs) (λ c. search needs) (λ c. search needs)
+    (λ c. search needs) (λ c. search needs) (λ c. search needs)
     cast-code cast-status cast-stated cast-itt cast-tag cast-residual returns returns-2)

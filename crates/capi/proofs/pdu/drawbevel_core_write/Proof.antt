@@ -14,7 +14,8 @@ returns-2 : tie.Need-returns-2
 unfolding writeWords
 returns-2 c =
     let d = c .before .before .before .before in
-    rw (← (d .before .before .response .ensures), d .stated .given .1, le-ltb _ _ (c .before .before .if1 .left), c .number-of2 .ensures, c .before .unfit-refusal .ensures)
+    let long = le-ltb _ _ (c .before .before .if1 .left) in
+    rw (← (d .before .before .response .ensures), d .stated .given .1, long, c .number-of2 .ensures, c .before .unfit-refusal .ensures)
 
 returns-3 : tie.Need-returns-3
 unfolding writeWords
