@@ -2,7 +2,7 @@
 use Prim.Native.Nat.{ℕ, _%_, _/_, _^_}
 use mathlib.Core.List.{List, [], _∷_}
 use Rattle.window.specs.Book as W
-use Rattle.book.specs.Book.{Answer, refused, immediate, opened, window, sent, acknowledged, run, resent, numbers}
+use Rattle.book.specs.Book.{Reply, numbers, nextIs, holding, lengthIs, Answer, refused, immediate, opened, window, sent, acknowledged, run, resent, told}
 
 -- the connection that a command came on; 4 where it has none
 abbrev pub originWord : W.Origin → ℕ
@@ -20,6 +20,19 @@ windowWords (W.void n) = 39 ∷ n ∷ 0 ∷ 0 ∷ []
 windowWords (W.loggedOut e v) = 32 ∷ e ∷ v ∷ 0 ∷ []
 windowWords (W.refused n) = n ∷ 0 ∷ 0 ∷ 0 ∷ []
 
+-- who holds a number: 41 for nobody, 39 for a void one, 42 for a held one
+abbrev pub holderWords : W.Holder → List ℕ
+holderWords W.free = 41 ∷ 0 ∷ 0 ∷ 0 ∷ []
+holderWords W.heldVoid = 39 ∷ 0 ∷ 0 ∷ 0 ∷ []
+holderWords (W.heldBy t o) = 42 ∷ t ∷ originWord o ∷ 0 ∷ []
+
+-- a length is answered as reading is: 0, which is no refusal
+abbrev pub replyWords : Reply → List ℕ
+replyWords (numbers e m) = 32 ∷ e ∷ m ∷ 0 ∷ []
+replyWords (nextIs n) = 32 ∷ n ∷ 0 ∷ 0 ∷ []
+replyWords (holding h) = holderWords h
+replyWords (lengthIs n) = 0 ∷ n ∷ 0 ∷ 0 ∷ []
+
 -- a refusal's number; 32 for what is done; 33 to 40 for kept, duplicate, passed, beyond, immediate, nothing, void and a command
 abbrev pub answerWords : Answer → List ℕ
 answerWords (refused n) = n ∷ 0 ∷ 0 ∷ 0 ∷ []
@@ -30,7 +43,7 @@ answerWords (sent n) = 32 ∷ n ∷ 0 ∷ 0 ∷ []
 answerWords (acknowledged n) = 32 ∷ n ∷ 0 ∷ 0 ∷ []
 answerWords (run f n) = 32 ∷ f ∷ n ∷ 0 ∷ []
 answerWords (resent t) = 32 ∷ t ∷ 0 ∷ 0 ∷ []
-answerWords (numbers e m) = 32 ∷ e ∷ m ∷ 0 ∷ []
+answerWords (told r) = replyWords r
 
 -- an answer of one value at most, as one number: what came, and above its 32 bits the value
 abbrev pub packed : ℕ → List ℕ

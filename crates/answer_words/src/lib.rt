@@ -1,6 +1,9 @@
 // A session's answers as four words, and as one number where there is one value at most.
 use refusal::Refusal;
-use session::WindowNumbers;
+use request_header::LengthAnswer;
+use session_questions::HolderAnswer;
+use session_questions::NextAnswer;
+use session_questions::WindowNumbers;
 use session_snack::SnackAnswer;
 use session_statuses::ResendAnswer;
 use window::Offered;
@@ -8,13 +11,18 @@ use window::Origin;
 use window::Taken;
 ghost use mathlib.Core.Path.{_≡_};
 ghost use mathlib.Core.List.{[], _∷_};
-ghost use Rattle.book.specs.Book.{Answer, fromWindow};
+ghost use Rattle.book.specs.Book.{Answer, Reply, lengthReply, fromWindow};
+ghost use Rattle.request_header.specs.Request.{lengthAnswerOf};
+ghost use Rattle.session_questions.specs.Answer.{nextAnswer, holderAnswer};
 ghost use Rattle.session_statuses.specs.Answer.{resendAnswer};
 ghost use Rattle.session_snack.specs.Answer.{snackAnswer};
 ghost use Rattle.refusal.specs.Refusal.{number};
 ghost use Rattle.window.specs.Agree.{originOf};
 ghost use Rattle.window.specs.Book as W;
 ghost use Rattle.answer_words.specs.Answer.{originWord, answerWords, packed};
+
+// A header was read or written, or its length told.
+const OK: u32 = 0;
 
 pub const DONE: u32 = 32;
 
@@ -33,6 +41,10 @@ const NOTHING: u32 = 38;
 const VOID: u32 = 39;
 
 const COMMAND: u32 = 40;
+
+const FREE: u32 = 41;
+
+const HELD: u32 = 42;
 
 pub fn refused(f: Refusal) -> [u32; 4]
     ensures { λ w. ⌜ w ≡ answerWords (Answer.refused (number f)) ⌝ }
@@ -113,7 +125,36 @@ pub fn resent(a: ResendAnswer) -> u64
 }
 
 pub fn numbers(a: WindowNumbers) -> [u32; 4]
-    ensures { λ w. ⌜ w ≡ answerWords (Answer.numbers (a .«exp_cmd_sn») (a .«max_cmd_sn»)) ⌝ }
+    ensures { λ w. ⌜ w ≡ answerWords (Answer.told (Reply.numbers (a .«exp_cmd_sn») (a .«max_cmd_sn»))) ⌝ }
 {
     [DONE, a.exp_cmd_sn, a.max_cmd_sn, 0]
+}
+
+pub fn next(a: NextAnswer) -> u64
+    ensures { λ r. ⌜ packed r ≡ answerWords (nextAnswer a) ⌝ }
+{
+    match a {
+        NextAnswer::Refused(f) => pack_refused(f),
+        NextAnswer::Next(n) => pack(DONE, n),
+    }
+}
+
+pub fn holder(a: HolderAnswer) -> [u32; 4]
+    ensures { λ w. ⌜ w ≡ answerWords (Answer.told (Reply.holding (holderAnswer a))) ⌝ }
+{
+    match a {
+        HolderAnswer::Free => [FREE, 0, 0, 0],
+        HolderAnswer::Void => [VOID, 0, 0, 0],
+        HolderAnswer::By { ticket, origin } => [HELD, ticket, origin_word(origin), 0],
+    }
+}
+
+// A length goes with the number of no refusal.
+pub fn length(a: LengthAnswer) -> u64
+    ensures { λ r. ⌜ packed r ≡ answerWords (lengthReply (lengthAnswerOf a)) ⌝ }
+{
+    match a {
+        LengthAnswer::Refused(f) => pack_refused(f),
+        LengthAnswer::Whole(n) => pack(OK, n),
+    }
 }

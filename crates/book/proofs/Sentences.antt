@@ -24,12 +24,12 @@ use Rattle.ledger.specs.Book as L
 use Rattle.ledger.specs.declared.Renewal.{Renewal}
 use Rattle.book.specs.declared.Given.{Given}
 use Rattle.book.specs.declared.Opening.{Opening}
-use Rattle.book.specs.Book.{Offered, denied, atOnce, numbered, offeredAs, OpenConnection, withLedger, openedBy, Connection, closed, live, Book, share, freshBook, Outputs, outputs, noOutputs, written, Choice, Call, offer, take, logout, opening, send, acknowledge, snack, resend, windowNumbers, refused, immediate, window, fromWindow, sent, acknowledged, run, resent, numbers, Step, step, connOf, withWindow, withConn, byWindow, onOpen, onConnection, lending, offerBy, loggedOut, logoutBy, openAt, sendAs, sendBy, acknowledgeBy, runStep, Asked, asked, deniedRun, from, snackBy, renewal, shown, resendBy, cmdSN, bookStep}
+use Rattle.book.specs.Book.{Offered, denied, atOnce, numbered, offeredAs, OpenConnection, withLedger, openedBy, Connection, closed, live, Book, share, freshBook, Outputs, outputs, noOutputs, written, Choice, Call, offer, take, logout, opening, send, acknowledge, snack, resend, ask, windowNumbers, holder, refused, immediate, window, fromWindow, sent, acknowledged, run, resent, told, numbers, holding, replyTo, Step, step, connOf, withWindow, withConn, byWindow, onOpen, onConnection, lending, offerBy, loggedOut, logoutBy, openAt, sendAs, sendBy, acknowledgeBy, runStep, Asked, asked, deniedRun, from, snackBy, renewal, shown, resendBy, cmdSN, bookStep}
 use Rattle.book.specs.Events.{event, Turn, turn, booked, bookRun}
 use Rattle.book.specs.Effects.{WindowEffect, handsOut, ConnectionEffect, opens, closes, sends, acknowledges, windowEffect, Past, nothingDone, andThen}
 use Rattle.book.specs.Commands.{same, handOuts, next, distance, amongNext, amongLast, Latest, by, latestOffer, originOf, held, expCmdSN, maxCmdSN, voidedSince, emptied}
 use Rattle.book.specs.Statuses.{isOpen, lastSent, acknowledgedSince}
-use Rattle.book.specs.Demand.{Takes, Offers, Shows, Resends, NotRefused, isNumbered, Sentences, Each, Demand3}
+use Rattle.book.specs.Demand.{Takes, Offers, Shows, Resends, Holds, NotRefused, isNumbered, Sentences, Each, Demand3}
 use Rattle.response_header.proofs.Writing.{length-header}
 use Rattle.book.proofs.Small.{apart, share-fits, IsOffered, is-denied, is-immediate, is-numbered, offered-is, offered-number}
 use Rattle.book.proofs.PastWindow.{AllNumbered, WindowInv, next-is, distance-is, held-is, isHeld, window-quiet, window-keeps, window-hands, window-logs, window-fresh, count-is, exp-is, max-is, last-is, was-offered, placeIn, placeOf, headerIn, ticketIn, place-first}
@@ -275,7 +275,7 @@ module _ (g : Given) (past : Past) (b : Book) (i : Inv g past b) where
   step-good (resend c n o) x =
       by-lend (Good g past b i (resend c n o)) b o (onConnection b c o (resendBy b n o)) (quiet g past b i) (λ long.
       by-reach (Good g past b i (resend c n o)) b c o (resendBy b n o) (quiet g past b i) (quiet g past b i) (λ l k e. resend-good c n o k))
-  step-good windowNumbers x = quiet g past b i
+  step-good (ask q) x = quiet g past b i
 
   pub inv-step : (t : Turn) → Inv g (andThen past (booked b t)) (bookStep b (t .call) (t .choice) .book)
   unfolding Good booked
@@ -431,6 +431,33 @@ module _ (g : Given) (ds : List WindowEffect) (b : Book) (i : WindowInv g ds (b 
   unfolding bookStep lending
   takes-short o x l = rw (lt-ltb (length (o .header)) 48 l) (refl, refl)
 
+  -- who holds a number, by what the history says of its place
+  holds-at : (n : ℕ) (h u : Bool) → held g ds n ≡ h → voidedSince g ds n ≡ u
+      → Holds g ds n (told (holding (W.holderAt (placeOf h (latestOffer ds n) (originOf ds n) u))))
+  unfolding W.holderAt placeOf
+  holds-at n false u p q = record {
+    free = (λ e. p, λ e. refl);
+    void = (λ e. let z : _≡_ {A = ℕ} 0 1 = cc in absurd (omega arith), λ e. absurd (apart (e .0) p));
+    by = λ e. absurd (apart e p);
+    offered = λ e. absurd (apart e p);
+  }
+  holds-at n true true p q = record {
+    free = (λ e. let z : _≡_ {A = ℕ} 0 1 = cc in absurd (omega arith), λ e. absurd (apart p e));
+    void = (λ e. (p, q), λ e. refl);
+    by = λ e s. absurd (apart q s);
+    offered = λ e l. was-offered g ds n e l;
+  }
+  holds-at n true false p q = record {
+    free = (λ e. let z : _≡_ {A = ℕ} 0 1 = cc in absurd (omega arith), λ e. absurd (apart p e));
+    void = (λ e. let z : _≡_ {A = ℕ} 0 1 = cc in absurd (omega arith), λ e. absurd (apart (e .1) q));
+    by = λ e s c t h l. ap (λ (x : Latest). told (holding (W.heldBy (ticketIn x) (originOf ds n)))) l;
+    offered = λ e l. was-offered g ds n e l;
+  }
+
+  holds-for : (n : ℕ) (x : Choice) → Holds g ds n (bookStep b (ask (holder n)) x .answer)
+  unfolding bookStep replyTo W.holderOf placeIn
+  holds-for n x = rw (← (i .places n)) (holds-at n (held g ds n) (voidedSince g ds n) refl refl)
+
   offers-at : (n : ℕ) (e : Command) → Offers g ds n (fromWindow (W.offerStep (b .window) (W.distance (b .window) n) e .answer))
   unfolding W.offerStep W.offerAt W.wasHandedOut
   offers-at n e = near (decLt (W.distance w n) (w .share))
@@ -561,11 +588,14 @@ module _ (g : Given) (past : Past) (b : Book) (i : Inv g past b) where
         within = λ n h. within g ws (bookStep b (t .call) x .book .window) n (after .window) h;
         resends = λ k n o q p vp long.
             subst (λ (y : Call). Resends g past k n (o .header) (bookStep b y x .answer) (bookStep b y x .out .header)) (sym q) (resends-for k n o x p vp long);
-        window-numbers = λ q. subst (λ (y : Call). bookStep b y x .answer ≡ numbers (expCmdSN g (past .window)) (maxCmdSN g (past .window))) (sym q) window-for;
+        window-numbers = λ q. subst (λ (y : Call). bookStep b y x .answer ≡ told (numbers (expCmdSN g (past .window)) (maxCmdSN g (past .window)))) (sym q) window-for;
+        holds = λ n q. subst (λ (y : Call). Holds g (past .window) n (bookStep b y x .answer)) (sym q) (holds-for g (past .window) b (i .window) n x);
       }
     where
-      window-for : bookStep b windowNumbers (t .choice) .answer ≡ numbers (expCmdSN g (past .window)) (maxCmdSN g (past .window))
-      window-for = unfold bookStep in (ap₂ numbers (sym (exp-is g (past .window) (b .window) (i .window))) (sym (max-is g (past .window) (b .window) (i .window))))
+      window-for : bookStep b (ask windowNumbers) (t .choice) .answer ≡ told (numbers (expCmdSN g (past .window)) (maxCmdSN g (past .window)))
+      window-for =
+          unfold bookStep in (unfold replyTo in (ap₂ (λ (e m : ℕ). told (numbers e m))
+          (sym (exp-is g (past .window) (b .window) (i .window))) (sym (max-is g (past .window) (b .window) (i .window)))))
 
 -- ---- from a fresh session
 

@@ -7,7 +7,7 @@ use lib.Dec.{ltb, leb, eqb}
 use lib.ListN as ListN
 use lib.ListN.{length, getD, set, drop, replicate}
 use Rattle.field.specs.Field.{pick, beAt}
-use Rattle.request_header.specs.Request.{limits, readPdu}
+use Rattle.request_header.specs.Request.{limits, readPdu, LengthAnswer, whole, unframed, lengthAsked}
 use Rattle.request_header.specs.Request as Read
 use Rattle.request_header.specs.Kind.{RequestKind, nopOut, scsiCommand, taskManagement, login, kindOf, ifSnack}
 use Rattle.request_header.specs.Kind as Kind
@@ -65,6 +65,14 @@ pub record Outputs : Type 0 where
 abbrev pub outputs : List ℕ → Outputs
 outputs h = record { header = h }
 
+-- What a call may ask, which changes nothing: the window's two numbers, the next StatSN of a connection, who holds a number, and how long
+-- the PDU is that begins with these bytes.
+pub data Question : Type 0 where
+  windowNumbers : Question
+  nextStatSN : (connection : ℕ) → Question
+  holder : (number : ℕ) → Question
+  wholeLength : (bytes : List ℕ) → Question
+
 -- The calls with their arguments. `out` is what a call lends, as it is before.
 pub data Call : Type 0 where
   offer : (connection ticket : ℕ) → (pdu : List ℕ) → Call
@@ -75,7 +83,7 @@ pub data Call : Type 0 where
   acknowledge : (connection expStatSN : ℕ) → Call
   snack : (connection : ℕ) → (pdu : List ℕ) → Call
   resend : (connection statSN : ℕ) → (out : Outputs) → Call
-  windowNumbers : Call
+  ask : Question → Call
 
 -- What a call lends; without an output it is empty.
 abbrev pub noOutputs : Outputs
@@ -90,7 +98,14 @@ lent (send c t r o) = o
 lent (acknowledge c e) = noOutputs
 lent (snack c p) = noOutputs
 lent (resend c n o) = o
-lent windowNumbers = noOutputs
+lent (ask q) = noOutputs
+
+-- What a question is answered, where it is not refused.
+pub data Reply : Type 0 where
+  numbers : (expCmdSN maxCmdSN : ℕ) → Reply
+  nextIs : (statSN : ℕ) → Reply
+  holding : W.Holder → Reply
+  lengthIs : ℕ → Reply
 
 -- The answers. `refused` has paper 01's number; `window` is what the command window answers to an offer, a take, a logout.
 pub data Answer : Type 0 where
@@ -101,7 +116,7 @@ pub data Answer : Type 0 where
   acknowledged : (count : ℕ) → Answer
   run : (first count : ℕ) → Answer
   resent : (ticket : ℕ) → Answer
-  numbers : (expCmdSN maxCmdSN : ℕ) → Answer
+  told : Reply → Answer
 
 -- A refusal of the window is the session's; its other answers are shown as they are.
 abbrev pub fromWindow : W.Answer → Answer
@@ -281,6 +296,24 @@ shown b o (L.found s) = step (resent (s .ticket)) (written (L.renewed (s .header
 unfoldable pub resendBy : Book → (statSN : ℕ) → Outputs → OpenConnection → Step
 resendBy b n o k = pick (eqb (b .given .level) 0) (refuse 12 o b) (shown b o (L.statusOf (k .ledger) n))
 
+-- ---- questions
+
+-- CLOSED where the connection isn't open.
+unfoldable pub nextOf : Connection → Answer
+nextOf closed = refused 8
+nextOf (live k) = told (nextIs (k .ledger .next))
+
+abbrev pub lengthReply : LengthAnswer → Answer
+lengthReply (whole n) = told (lengthIs n)
+lengthReply (unframed n) = refused n
+
+-- NOCONN comes before CLOSED.
+unfoldable pub replyTo : Book → Question → Answer
+replyTo b windowNumbers = told (numbers (W.expCmdSN (b .window)) (W.maxCmdSN (b .window)))
+replyTo b (nextStatSN c) = pick (ltb c connections) (nextOf (connOf b c)) (refused 7)
+replyTo b (holder n) = told (holding (W.holderOf (b .window) n))
+replyTo b (wholeLength p) = lengthReply (lengthAsked limits p)
+
 -- ---- the step of the book at a call
 
 unfoldable pub bookStep : Book → Call → Choice → Step
@@ -292,4 +325,4 @@ bookStep b (send c t r o) x = lending b o (onConnection b c o (sendBy b c t r o)
 bookStep b (acknowledge c e) x = onConnection b c noOutputs (acknowledgeBy b c e)
 bookStep b (snack c pdu) x = onConnection b c noOutputs (λ k. snackBy b (k .ledger) (asked (b .given .level) (readPdu (k .limits) pdu)))
 bookStep b (resend c n o) x = lending b o (onConnection b c o (resendBy b n o))
-bookStep b windowNumbers x = step (numbers (W.expCmdSN (b .window)) (W.maxCmdSN (b .window))) noOutputs b
+bookStep b (ask q) x = step (replyTo b q) noOutputs b

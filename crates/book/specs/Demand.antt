@@ -13,7 +13,7 @@ use Rattle.store.specs.Slot.{headerSize}
 use Rattle.window.specs.Book as W
 use Rattle.ledger.specs.Book.{Status, missing, found}
 use Rattle.book.specs.declared.Given.{Given}
-use Rattle.book.specs.Book.{Outputs, offer, take, resend, windowNumbers, Answer, refused, window, resent, numbers, cmdSN}
+use Rattle.book.specs.Book.{Outputs, offer, take, resend, ask, windowNumbers, holder, Answer, refused, window, resent, told, numbers, holding, cmdSN}
 use Rattle.book.specs.Events.{Event}
 use Rattle.book.specs.Effects.{WindowEffect, handsOut, windowEffect, Past, nothingDone, andThen}
 use Rattle.book.specs.Commands.{handOuts, next, amongNext, amongLast, Latest, by, latestOffer, originOf, held, expCmdSN, maxCmdSN, voidedSince, keptOffers, emptied, heldNow}
@@ -64,6 +64,16 @@ pub record Resends (g : Given) (past : Past) (c n : ℕ) (out : List ℕ) (a : A
   pub refused : (lastSent (past .connections) c n ≡ missing) ⊎ (acknowledgedSince (past .connections) c n ≡ true) → (a ≡ refused 12) × (out' ≡ out)
   pub shows : (s : Status) → lastSent (past .connections) c n ≡ found s → acknowledgedSince (past .connections) c n ≡ false → Shows g (past .window) s out a out'
 
+-- Who holds the number n: nobody exactly when it is not held, void exactly when a logout voided it since; otherwise the ticket of its latest
+-- kept offer, and the origin that it still has.
+pub record Holds (g : Given) (past : List WindowEffect) (n : ℕ) (a : Answer) : Type 0 where
+  pub free : (a ≡ told (holding W.free)) ↔ (held g past n ≡ false)
+  pub void : (a ≡ told (holding W.heldVoid)) ↔ ((held g past n ≡ true) × (voidedSince g past n ≡ true))
+  pub by : held g past n ≡ true → voidedSince g past n ≡ false → (c t : ℕ) (h : List ℕ)
+      → latestOffer past n ≡ by c t h → a ≡ told (holding (W.heldBy t (originOf past n)))
+  -- a number that is held has a latest kept offer
+  pub offered : held g past n ≡ true → latestOffer past n ≡ Latest.none → ⊥
+
 -- The answer is no refusal.
 abbrev pub NotRefused : Answer → Type 0
 NotRefused a = (n : ℕ) → a ≡ refused n → ⊥
@@ -86,8 +96,9 @@ pub record Sentences (g : Given) (past : Past) (e : Event) : Type 0 where
   -- "On each open connection since its latest opening, at ErrorRecoveryLevel above 0 and with 48 bytes lent, a resend is ..".
   pub resends : (c n : ℕ) (out : Outputs) → e .call ≡ resend c n out → isOpen (past .connections) c ≡ true → 0 < g .level → headerSize ≤ length (out .header)
       → Resends g past c n (out .header) (e .answer) (e .out .header)
-  -- the window's two numbers, where they are asked for
-  pub window-numbers : e .call ≡ windowNumbers → e .answer ≡ numbers (expCmdSN g (past .window)) (maxCmdSN g (past .window))
+  -- the window's two numbers, and who holds a number, where they are asked for
+  pub window-numbers : e .call ≡ ask windowNumbers → e .answer ≡ told (numbers (expCmdSN g (past .window)) (maxCmdSN g (past .window)))
+  pub holds : (n : ℕ) → e .call ≡ ask (holder n) → Holds g (past .window) n (e .answer)
 
 -- What holds of each event of a list, in the order of the calls, with what was done before it.
 unfoldable pub Each : (Past → Event → Type 0) → Past → List Event → Type 0

@@ -8,7 +8,7 @@ use Rattle.store.specs.Slot.{headerSize}
 use Rattle.window.specs.Book as W
 use Rattle.ledger.specs.Book.{isStatus}
 use Rattle.book.specs.declared.Opening.{Opening}
-use Rattle.book.specs.Book.{Outputs, Call, offer, take, logout, opening, send, acknowledge, snack, resend, windowNumbers, Answer, refused, immediate, opened, window, sent, acknowledged, run, resent, numbers, cmdSN}
+use Rattle.book.specs.Book.{Outputs, Call, offer, take, logout, opening, send, acknowledge, snack, resend, ask, Answer, refused, immediate, opened, window, sent, acknowledged, run, resent, told, cmdSN}
 use Rattle.book.specs.Events.{Event}
 
 -- ---- the window's side
@@ -97,7 +97,7 @@ byAnswer w o s k x (sent n) = s n
 byAnswer w o s k x (acknowledged n) = k
 byAnswer w o s k x (run f n) = x
 byAnswer w o s k x (resent t) = x
-byAnswer w o s k x (numbers e m) = x
+byAnswer w o s k x (told r) = x
 
 abbrev pub ifKept : {A : Type 0} → A → A → Answer → A
 ifKept f x = byAnswer (byWindowAnswer f (λ n. x) (λ e v. x) x) x (λ n. x) x x
@@ -127,7 +127,7 @@ windowEffectBy (send c t r x) a = WindowEffect.none
 windowEffectBy (acknowledge c e) a = WindowEffect.none
 windowEffectBy (snack c p) a = WindowEffect.none
 windowEffectBy (resend c n x) a = WindowEffect.none
-windowEffectBy windowNumbers a = WindowEffect.none
+windowEffectBy (ask q) a = WindowEffect.none
 
 -- What a call did to a connection. "A NOP-In with ITT 0xffffffff .. doesn't count as a status sent": its send does nothing.
 abbrev pub connectionEffectBy : Call → Outputs → Answer → ConnectionEffect
@@ -140,7 +140,7 @@ connectionEffectBy (send c t r x) o a =
 connectionEffectBy (acknowledge c e) o a = ifAcknowledged (acknowledges c e) ConnectionEffect.none a
 connectionEffectBy (snack c p) o a = ConnectionEffect.none
 connectionEffectBy (resend c n x) o a = ConnectionEffect.none
-connectionEffectBy windowNumbers o a = ConnectionEffect.none
+connectionEffectBy (ask q) o a = ConnectionEffect.none
 
 abbrev pub windowEffect : Event → WindowEffect
 windowEffect e = windowEffectBy (e .call) (e .answer)

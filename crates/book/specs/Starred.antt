@@ -6,7 +6,7 @@ use lib.ListN.{replicate}
 use Rattle.field.specs.Field.{bytesOf}
 use Rattle.response_header.specs.declared.Response.the-variants as R
 use Rattle.window.specs.Book as W
-use Rattle.book.specs.Book.{Book, freshBook, outputs, Call, offer, take, send, snack, windowNumbers, Answer, window, run, numbers, Choice}
+use Rattle.book.specs.Book.{Book, freshBook, outputs, Call, offer, take, send, snack, ask, windowNumbers, Answer, window, run, told, numbers, Choice}
 use Rattle.book.specs.Events.{Event, Turn, turn, bookRun, bookAfter}
 
 -- A case: the calls that come before it on a session fresh at 0xfffffffe with connection 0's first StatSN 0xfffffffe and level
@@ -40,15 +40,15 @@ unfoldable pub table : List Case
 unfolding offers asks takes sends threeHeld
 table =
     -- MaxCmdSN 0x3d
-    case [] (windowNumbers ∷ []) (numbers 0xfffffffe 0x3d ∷ [])
+    case [] (ask windowNumbers ∷ []) (told (numbers 0xfffffffe 0x3d) ∷ [])
     -- offer 0x3d kept
     ∷ case [] (offers 0x3d ∷ []) (window W.kept ∷ [])
     -- 0x3e beyond
     ∷ case (offers 0x3d ∷ []) (offers 0x3e ∷ []) (window W.beyond ∷ [])
     -- 0 kept, ExpCmdSN unmoved
-    ∷ case (offers 0x3d ∷ offers 0x3e ∷ []) (offers 0 ∷ windowNumbers ∷ []) (window W.kept ∷ numbers 0xfffffffe 0x3d ∷ [])
+    ∷ case (offers 0x3d ∷ offers 0x3e ∷ []) (offers 0 ∷ ask windowNumbers ∷ []) (window W.kept ∷ told (numbers 0xfffffffe 0x3d) ∷ [])
     -- then 0xfffffffe kept, ExpCmdSN 0xffffffff
-    ∷ case (offers 0x3d ∷ offers 0x3e ∷ offers 0 ∷ []) (offers 0xfffffffe ∷ windowNumbers ∷ []) (window W.kept ∷ numbers 0xffffffff 0x3d ∷ [])
+    ∷ case (offers 0x3d ∷ offers 0x3e ∷ offers 0 ∷ []) (offers 0xfffffffe ∷ ask windowNumbers ∷ []) (window W.kept ∷ told (numbers 0xffffffff 0x3d) ∷ [])
     -- Take; offer 0xfffffffe passed
     ∷ case (offers 0x3d ∷ offers 0x3e ∷ offers 0 ∷ offers 0xfffffffe ∷ takes ∷ []) (offers 0xfffffffe ∷ []) (window W.passed ∷ [])
     -- 0xfffffffd beyond

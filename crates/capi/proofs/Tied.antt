@@ -10,7 +10,7 @@ use denote.Triple.Clauses.{AtExit}
 use Rattle.window.specs.Agree.{Commands, commands}
 use Rattle.ledger.specs.Agree.{Statuses, statusesIn}
 use Rattle.book.specs.declared.Given.{Given}
-use Rattle.book.specs.Book.{Book, Outputs, outputs, noOutputs, lent, Call, offer, take, logout, opening, send, acknowledge, snack, resend, windowNumbers, Answer, refused, Step, choiceOf, freshBook}
+use Rattle.book.specs.Book.{Book, Outputs, outputs, noOutputs, lent, Call, offer, take, logout, opening, send, acknowledge, snack, resend, ask, Question, windowNumbers, nextStatSN, holder, wholeLength, Answer, refused, Step, choiceOf, freshBook}
 use Rattle.book.specs.Events.{Event, event, turnsOf}
 use Rattle.book.specs.Demand.{Demand3}
 use Rattle.book.proofs.Sentences.{demand3-booked}
@@ -39,8 +39,14 @@ use Rattle.capi.proofs.calls.drawbevel_core_snack.Reads as snack-r
 use Rattle.capi.proofs.calls.drawbevel_core_snack.Kinds as snack-k
 use Rattle.capi.proofs.calls.drawbevel_core_resend.Reads as resend-r
 use Rattle.capi.proofs.calls.drawbevel_core_resend.Kinds as resend-k
-use Rattle.capi.proofs.calls.drawbevel_core_window.Reads as window-r
-use Rattle.capi.proofs.calls.drawbevel_core_window.Kinds as window-k
+use Rattle.capi.proofs.questions.drawbevel_core_window.Reads as window-r
+use Rattle.capi.proofs.questions.drawbevel_core_window.Kinds as window-k
+use Rattle.capi.proofs.questions.drawbevel_core_next.Reads as next-r
+use Rattle.capi.proofs.questions.drawbevel_core_next.Kinds as next-k
+use Rattle.capi.proofs.questions.drawbevel_core_holder.Reads as holder-r
+use Rattle.capi.proofs.questions.drawbevel_core_holder.Kinds as holder-k
+use Rattle.capi.proofs.questions.drawbevel_core_length.Reads as length-r
+use Rattle.capi.proofs.questions.drawbevel_core_length.Kinds as length-k
 
 -- What was asked of the words before, the words of its answer, what it lent, and the words after it.
 pub record Done : Type 0 where
@@ -165,9 +171,52 @@ pub record ByNumbers (d : Done) : Type 1 where
   pub learnt : window-r.Learnt κs a r s
   pub commands-left : Commands
   pub statuses-left : Statuses
-  pub is : d ≡ done (calls windowNumbers)
+  pub is : d ≡ done (calls (ask windowNumbers))
       (sessionWords (now (a .0)) (now (a .1 .0)) commands-left statuses-left) (now (s .1 .1 .0)) noOutputs
       (sessionWords (now (a .0)) (now (a .1 .0)) commands-left statuses-left)
+
+-- A call of `drawbevel_core_next`: a are its arguments, r its result, s its parameters at exit.
+pub record ByNext (d : Done) : Type 1 where
+  pub κs : Lifetimes.Lfts 2
+  pub a : K.Dens {n = 2} κs next-k.ps
+  pub r : K.resT next-k.r κs .Denot
+  pub s : AtExit (K.endedOf 2 next-k.ps next-k.r) κs
+  pub learnt : next-r.Learnt κs a r s
+  pub commands-left : Commands
+  pub statuses-left : Statuses
+  pub is : d ≡ done (calls (ask (nextStatSN (a .1 .1 .0))))
+      (sessionWords (now (a .0)) (now (a .1 .0)) commands-left statuses-left) (packed r) noOutputs
+      (sessionWords (now (a .0)) (now (a .1 .0)) commands-left statuses-left)
+
+-- A call of `drawbevel_core_holder`: a are its arguments, r its result, s its parameters at exit. Of the commands it is lent the tickets alone.
+pub record ByHolder (d : Done) : Type 1 where
+  pub κs : Lifetimes.Lfts 4
+  pub a : K.Dens {n = 4} κs holder-k.ps
+  pub r : K.resT holder-k.r κs .Denot
+  pub s : AtExit (K.endedOf 4 holder-k.ps holder-k.r) κs
+  pub learnt : holder-r.Learnt κs a r s
+  pub headers-left : List ℕ
+  pub statuses-left : Statuses
+  pub is : d ≡ done (calls (ask (holder (a .1 .1 .1 .0))))
+      (sessionWords (now (a .0)) (now (a .1 .0)) (commands headers-left (now (a .1 .1 .0))) statuses-left) (now (s .1 .1 .1 .1 .0)) noOutputs
+      (sessionWords (now (a .0)) (now (a .1 .0)) (commands headers-left (now (a .1 .1 .0))) statuses-left)
+
+-- A call of `drawbevel_core_length`: a are its arguments, r its result, s its parameters at exit. It is given nothing of the session.
+pub record ByLength (d : Done) : Type 1 where
+  pub κs : Lifetimes.Lfts 1
+  pub a : K.Dens {n = 1} κs length-k.ps
+  pub r : K.resT length-k.r κs .Denot
+  pub s : AtExit (K.endedOf 1 length-k.ps length-k.r) κs
+  pub learnt : length-r.Learnt κs a r s
+  pub words-left : SessionWords
+  pub is : d ≡ done (calls (ask (wholeLength (now (a .0))))) words-left (packed r) noOutputs words-left
+
+-- A question was put to its own function.
+abbrev pub PutTo : Question → Done → Type 1
+PutTo windowNumbers d = ByNumbers d
+PutTo (nextStatSN c) d = ByNext d
+PutTo (holder n) d = ByHolder d
+PutTo (wholeLength p) d = ByLength d
 
 -- What was asked was asked of its own function: each case of `Call` has one, and words that are no response go to that of a send. The arrays
 -- that a function is not lent stay ("written by nobody else").
@@ -180,7 +229,7 @@ CalledBy (send c t r o) d = BySend d
 CalledBy (acknowledge c e) d = ByAcknowledge d
 CalledBy (snack c p) d = BySnack d
 CalledBy (resend c n o) d = ByResend d
-CalledBy windowNumbers d = ByNumbers d
+CalledBy (ask q) d = PutTo q d
 
 abbrev pub AskedBy : Asked → Done → Type 1
 AskedBy (calls c) d = CalledBy c d
@@ -203,6 +252,12 @@ SaidIt d = SaidBy (d .asked) (d .before) (d .words) (d .out) (d .after)
 by-send : (d : Done) → BySend d → SaidIt d
 by-send d x = subst SaidIt (sym (x .is)) (x .learnt (x .commands-left))
 
+pub put-said : (q : Question) (d : Done) → PutTo q d → SaidIt d
+put-said windowNumbers d x = subst SaidIt (sym (x .is)) (x .learnt (x .commands-left) (x .statuses-left))
+put-said (nextStatSN c) d x = subst SaidIt (sym (x .is)) (x .learnt (x .commands-left) (x .statuses-left))
+put-said (holder n) d x = subst SaidIt (sym (x .is)) (x .learnt (x .headers-left) (x .statuses-left))
+put-said (wholeLength p) d x = subst SaidIt (sym (x .is)) (x .learnt (x .words-left))
+
 pub called-said : (c : Call) (d : Done) → CalledBy c d → SaidIt d
 called-said (offer c t p) d x = subst SaidIt (sym (x .is)) (x .learnt (x .statuses-left))
 called-said (take o) d x = subst SaidIt (sym (x .is)) (x .learnt (x .statuses-left))
@@ -212,7 +267,7 @@ called-said (send c t r o) d x = by-send d x
 called-said (acknowledge c e) d x = subst SaidIt (sym (x .is)) (x .learnt (x .commands-left) (x .statuses-left))
 called-said (snack c p) d x = subst SaidIt (sym (x .is)) (x .learnt (x .commands-left) (x .statuses-left))
 called-said (resend c n o) d x = subst SaidIt (sym (x .is)) (x .learnt (x .commands-left))
-called-said windowNumbers d x = subst SaidIt (sym (x .is)) (x .learnt (x .commands-left) (x .statuses-left))
+called-said (ask q) d x = put-said q d x
 
 pub asked-said : (q : Asked) (d : Done) → AskedBy q d → SaidIt d
 asked-said (calls c) d x = called-said c d x

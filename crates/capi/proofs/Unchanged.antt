@@ -9,7 +9,7 @@ use Rattle.window.specs.declared.Offered.the-variants as O
 use Rattle.window.specs.declared.Taken.{Taken}
 use Rattle.window.specs.declared.Taken.the-variants as T
 use Rattle.ledger.specs.Agree.{Statuses}
-use Rattle.book.specs.Book.{Outputs, Call, lent, Answer, refused, immediate, opened, window, sent, acknowledged, run, resent, numbers, fromWindow}
+use Rattle.book.specs.Book.{Outputs, Call, lent, Answer, refused, immediate, opened, window, sent, acknowledged, run, resent, told, fromWindow}
 use Rattle.session_state.specs.declared.Session.{Session}
 use Rattle.session_state.specs.Agree.{State, state, Did}
 use Rattle.session_words.specs.State.{sessionOf}
@@ -46,7 +46,7 @@ still (sent n) call s o d = tt
 still (acknowledged n) call s o d = tt
 still (run f n) call s o d = tt
 still (resent t) call s o d = tt
-still (numbers e m) call s o d = tt
+still (told r) call s o d = tt
 
 pub shown-said : {call : Call} {s : SessionWords} {o : Outputs} {w : List ℕ} (a : Answer)
     → Did call (stateOf s) a o (stateOf s) → w ≡ answerWords a → Said call s w o s

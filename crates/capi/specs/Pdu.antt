@@ -14,7 +14,7 @@ use Rattle.response_words.specs.declared.FromWords.the-variants as F
 abbrev pub numbersOf : ℕ → ℕ → ℕ → Numbers
 numbersOf s e m = record { «stat_sn» = s; «exp_cmd_sn» = e; «max_cmd_sn» = m }
 
--- SessionWords that are no response have writing's refusals too, after BUFFER.
+-- Words that are no response have writing's refusals too, after BUFFER.
 unfoldable pub writeWords : FromWords → List ℕ → Numbers → Outcome
 writeWords (F.Response r) out n = writing maxData out r n
 writeWords (F.Unfit d) out n = pick (ltb (length out) 48) (record { answer = 1; bytes = out }) (record { answer = unfitRefusal maxData d; bytes = out })

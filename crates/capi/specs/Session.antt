@@ -9,7 +9,7 @@ use Rattle.ledger.specs.declared.Ledger.{Ledger}
 use Rattle.response_header.specs.declared.Response.{Response}
 use Rattle.book.specs.declared.Given.{Given}
 use Rattle.book.specs.declared.Opening.{Opening}
-use Rattle.book.specs.Book.{Book, Outputs, Call, offer, take, logout, opening, send, acknowledge, lent, Answer, refused, immediate, opened, window, sent, acknowledged, run, resent, numbers, Step, refuse, lending, onConnection}
+use Rattle.book.specs.Book.{Book, Outputs, Call, offer, take, logout, opening, send, acknowledge, lent, Answer, refused, immediate, opened, window, sent, acknowledged, run, resent, told, Step, refuse, lending, onConnection}
 use Rattle.session_state.specs.Agree.{State, state, Agrees, IsFresh, Did}
 use Rattle.session_state.specs.declared.Conn.{Conn}
 use Rattle.session_connections.specs.declared.Closes.{Closes}
@@ -62,7 +62,7 @@ LeavesWords (sent n) s s' l o = Unit {0}
 LeavesWords (acknowledged n) s s' l o = Unit {0}
 LeavesWords (run f n) s s' l o = Unit {0}
 LeavesWords (resent t) s s' l o = Unit {0}
-LeavesWords (numbers e m) s s' l o = Unit {0}
+LeavesWords (told r) s s' l o = Unit {0}
 
 -- The contract of every call: it did as the session does, the words w are its answer's, and of the session's words it wrote what it says.
 pub record Said (call : Call) (s : SessionWords) (w : List ℕ) (o : Outputs) (s' : SessionWords) : Type 0 where

@@ -225,20 +225,6 @@ pub extern "C" fn drawbevel_core_resend(
     answer_words::resent(a)
 }
 
-// ExpCmdSN and MaxCmdSN.
-#[no_mangle]
-pub extern "C" fn drawbevel_core_window(n: &[u32; 15], m: &[u64; 6], answer: &mut [u32; 4])
-    ensures { λ _. ⌜ ((k : Commands) (ss : Statuses)
-        → Said Call.windowNumbers
-        (sessionWords (now (n .entry)) (now (m .entry)) k ss)
-        (now (answer .exit)) noOutputs
-        (sessionWords (now (n .entry)) (now (m .entry)) k ss)) ⌝ }
-{
-    let s = load(n, m);
-    let a = session::window_numbers(s);
-    *answer = answer_words::numbers(a);
-}
-
 fn send_known(
     n: &mut [u32; 15],
     m: &mut [u64; 6],

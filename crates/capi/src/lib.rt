@@ -3,3 +3,4 @@
 pub mod calls;
 pub mod logins;
 pub mod pdu;
+pub mod questions;

@@ -38,7 +38,7 @@ fn write_known(out: &mut [u8], r: Response, n: Numbers) -> u32
 }
 
 // Writes a response's header into the first 48 bytes of out: 0, or the refusal's number, which leaves every byte.
-// SessionWords that are no response are TOOLONG by the data length that they state, else FIELD; both after BUFFER.
+// Words that are no response are TOOLONG by the data length that they state, else FIELD; both after BUFFER.
 #[no_mangle]
 pub extern "C" fn drawbevel_core_write(
     out: &mut [u8],

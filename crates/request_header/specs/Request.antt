@@ -19,6 +19,8 @@ use Rattle.request_header.specs.declared.Pdu.{Pdu}
 use Rattle.request_header.specs.declared.Limits.{Limits}
 use Rattle.request_header.specs.declared.ReadAnswer.{ReadAnswer}
 use Rattle.request_header.specs.declared.ReadAnswer.the-variants.{Got, Refused}
+use Rattle.request_header.specs.declared.LengthAnswer as Code
+use Rattle.request_header.specs.declared.LengthAnswer.the-variants as L
 
 -- the limits in force: 8,192 bytes of data, and functions 1 to 8
 abbrev pub limits : Limits
@@ -175,6 +177,26 @@ readPdu m s =
     (pick (ltb (m .«data_segment») (dataLengthOf s)) (refused 5)
     (pick (not (eqb (length s) (statedLength s))) (refused 4)
     (judged m (opcodeOf s) s (pduOf (opcodeOf s) s)))))
+
+-- ---- the whole length, from the first 48 bytes
+
+-- how long the PDU is, or the number of a refusal
+pub data LengthAnswer : Type 0 where
+  whole : ℕ → LengthAnswer
+  unframed : ℕ → LengthAnswer
+
+abbrev pub lengthAnswerOf : Code.LengthAnswer → LengthAnswer
+lengthAnswerOf (L.Whole n) = whole n
+lengthAnswerOf (L.Refused f) = unframed (number f)
+
+-- the refusals that reading would give before it looks at the length of the input: "input under 48 bytes is 4; then 2, 5"; else the whole
+-- length that the header states. Bytes after the 48 and the field rules play no part
+unfoldable pub lengthAsked : Limits → List ℕ → LengthAnswer
+lengthAsked m s =
+    pick (ltb (length s) 48) (unframed 4)
+    (pick (not (known (opcodeOf s))) (unframed 2)
+    (pick (ltb (m .«data_segment») (dataLengthOf s)) (unframed 5)
+    (whole (statedLength s))))
 
 -- the data segment of a PDU, a part of the input it was read from, without pad; of another input, what lies in that place
 unfoldable pub dataOf : List ℕ → Pdu → List ℕ

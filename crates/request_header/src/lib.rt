@@ -100,3 +100,9 @@ pub enum ReadAnswer {
     Got(Pdu),
     Refused(Refusal),
 }
+
+// The whole length of a PDU, or why its first bytes don't tell.
+pub enum LengthAnswer {
+    Whole(u32),
+    Refused(Refusal),
+}

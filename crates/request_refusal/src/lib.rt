@@ -1,6 +1,7 @@
 // The refusals of a request PDU by its bytes, as numbers: a number goes back in a register, an enum through memory.
 use field::HEADER_BYTES;
 use refusal::Refusal;
+use request_header::LengthAnswer;
 use request_header::Limits;
 use request_header::lengths::data_length;
 use request_header::lengths::data_start;
@@ -14,7 +15,7 @@ ghost use mathlib.Core.Path.{_≡_};
 ghost use mathlib.Core.Bool.{true};
 ghost use Prim.Native.Nat.{_≤_};
 ghost use lib.ListN.{length};
-ghost use Rattle.request_header.specs.Request.{known, opcodeOf};
+ghost use Rattle.request_header.specs.Request.{known, opcodeOf, lengthAnswerOf, lengthAsked};
 ghost use Rattle.request_header.specs.Verdicts.{fieldsOk, refusalBeforeField, firstRefusal, refusalNumbered};
 
 // Whether the opcode names a request that is read here.
@@ -42,6 +43,24 @@ pub fn refusal_before_field(input: &[u8], limits: Limits) -> u8
         return 4;
     }
     0
+}
+
+// The whole length of the PDU that begins with these bytes: LENGTH under 48 of them, OPCODE, TOOLONG. Later bytes aren't looked at.
+pub fn whole_length(input: &[u8], limits: Limits) -> LengthAnswer
+    ensures { λ r. ⌜ lengthAnswerOf r ≡ lengthAsked limits (now (input .entry)) ⌝ }
+{
+    if input.len() < HEADER_BYTES {
+        return LengthAnswer::Refused(Refusal::Length);
+    }
+    if !is_known(input[0] % 64) {
+        return LengthAnswer::Refused(Refusal::Opcode);
+    }
+    let data_length = data_length(input);
+    if (limits.data_segment as usize) < data_length {
+        return LengthAnswer::Refused(Refusal::TooLong);
+    }
+    let whole = data_start(input) + (data_length + 3) / 4 * 4;
+    LengthAnswer::Whole(whole as u32)
 }
 
 // The rules of the kind that the opcode names.

@@ -119,7 +119,7 @@ pub(crate) fn take(f: FreshSession) -> FreshSession {
 // ExpCmdSN and MaxCmdSN.
 pub(crate) fn numbers(f: FreshSession) {
     let s = f.session;
-    let n = session::window_numbers(s);
+    let n = session_questions::window_numbers(s);
     came(WINDOW, n.exp_cmd_sn, n.max_cmd_sn);
 }
 

@@ -1,5 +1,6 @@
 -- Demand 3 of the functions themselves. `Learnt` is a function's contract as a caller learns it of one call, so a history of
 -- `Called` is one of the functions, and what is proved of it breaks where a contract says less.
+use Prim.Native.Nat.{ℕ}
 use mathlib.Core.List.{List, [], _∷_}
 use mathlib.Core.Path.{_≡_, sym, subst}
 use denote.Ref.{now}
@@ -8,8 +9,9 @@ use borrow.Fn.Kinds as K
 use denote.Triple.Clauses.{AtExit}
 use Rattle.window.specs.Agree.{Commands}
 use Rattle.window.specs.Agree as WA
+use Rattle.request_header.specs.Request.{lengthAnswerOf}
 use Rattle.ledger.specs.Agree.{Statuses, statusesIn}
-use Rattle.book.specs.Book.{Outputs, outputs, noOutputs, Call, offer, take, logout, opening, send, acknowledge, snack, resend, windowNumbers, Answer, numbers, freshBook}
+use Rattle.book.specs.Book.{Outputs, outputs, noOutputs, Call, offer, take, logout, opening, send, acknowledge, snack, resend, ask, Question, windowNumbers, nextStatSN, holder, wholeLength, Answer, told, numbers, holding, lengthReply, freshBook}
 use Rattle.book.specs.Events.{Event, event, turnsOf}
 use Rattle.book.specs.Demand.{Demand3}
 use Rattle.book.proofs.Sentences.{demand3-booked}
@@ -21,6 +23,7 @@ use Rattle.session_connections.specs.Answer.{openAnswer, logoutAnswer}
 use Rattle.session_connections.specs.After.{afterOpen, afterLogout}
 use Rattle.session_statuses.specs.Answer.{sendAnswer, afterSend, acknowledgeAnswer, afterAcknowledge, resendAnswer}
 use Rattle.session_snack.specs.Answer.{snackAnswer}
+use Rattle.session_questions.specs.Answer.{nextAnswer, holderAnswer}
 use Rattle.session.specs.Fresh.{freshState}
 use Rattle.session_commands.proofs.offer.Reads as offer-r
 use Rattle.session_commands.proofs.offer.Kinds as offer-k
@@ -38,10 +41,16 @@ use Rattle.session_snack.proofs.snack.Reads as snack-r
 use Rattle.session_snack.proofs.snack.Kinds as snack-k
 use Rattle.session_statuses.proofs.resend.Reads as resend-r
 use Rattle.session_statuses.proofs.resend.Kinds as resend-k
+use Rattle.session_questions.proofs.window_numbers.Reads as numbers-r
+use Rattle.session_questions.proofs.window_numbers.Kinds as numbers-k
+use Rattle.session_questions.proofs.next_stat_sn.Reads as next-r
+use Rattle.session_questions.proofs.next_stat_sn.Kinds as next-k
+use Rattle.session_questions.proofs.holder.Reads as holder-r
+use Rattle.session_questions.proofs.holder.Kinds as holder-k
+use Rattle.session_questions.proofs.whole_length.Reads as length-r
+use Rattle.session_questions.proofs.whole_length.Kinds as length-k
 use Rattle.session.proofs.fresh.Reads as fresh-r
 use Rattle.session.proofs.fresh.Kinds as fresh-k
-use Rattle.session.proofs.window_numbers.Reads as numbers-r
-use Rattle.session.proofs.window_numbers.Kinds as numbers-k
 
 -- A call on a state, its answer, its outputs and the state after it.
 pub record Done : Type 0 where
@@ -171,10 +180,55 @@ pub record ByNumbers (d : Done) : Type 1 where
   pub learnt : numbers-r.Learnt κs a r s
   pub commands : Commands
   pub statuses : Statuses
-  pub is : d ≡ done (windowNumbers)
+  pub is : d ≡ done (ask windowNumbers)
       (state (a .0) commands statuses)
-      (numbers (r .«exp_cmd_sn») (r .«max_cmd_sn»)) (noOutputs)
+      (told (numbers (r .«exp_cmd_sn») (r .«max_cmd_sn»))) (noOutputs)
       (state (a .0) commands statuses)
+
+-- A call of `next_stat_sn`: a are its arguments, r its result, s its parameters at exit.
+pub record ByNext (d : Done) : Type 1 where
+  pub κs : Lifetimes.Lfts 0
+  pub a : K.Dens {n = 0} κs next-k.ps
+  pub r : K.resT next-k.r κs .Denot
+  pub s : AtExit (K.endedOf 0 next-k.ps next-k.r) κs
+  pub learnt : next-r.Learnt κs a r s
+  pub commands : Commands
+  pub statuses : Statuses
+  pub is : d ≡ done (ask (nextStatSN (a .1 .0)))
+      (state (a .0) commands statuses)
+      (nextAnswer r) (noOutputs)
+      (state (a .0) commands statuses)
+
+-- A call of `holder`: a are its arguments, r its result, s its parameters at exit. It is lent the tickets of the commands alone.
+pub record ByHolder (d : Done) : Type 1 where
+  pub κs : Lifetimes.Lfts 1
+  pub a : K.Dens {n = 1} κs holder-k.ps
+  pub r : K.resT holder-k.r κs .Denot
+  pub s : AtExit (K.endedOf 1 holder-k.ps holder-k.r) κs
+  pub learnt : holder-r.Learnt κs a r s
+  pub headers : List ℕ
+  pub statuses : Statuses
+  pub is : d ≡ done (ask (holder (a .1 .1 .0)))
+      (state (a .0) (WA.commands headers (now (a .1 .0))) statuses)
+      (told (holding (holderAnswer r))) (noOutputs)
+      (state (a .0) (WA.commands headers (now (a .1 .0))) statuses)
+
+-- A call of `whole_length`: a are its arguments, r its result, s its parameters at exit. It is given nothing of the session.
+pub record ByLength (d : Done) : Type 1 where
+  pub κs : Lifetimes.Lfts 1
+  pub a : K.Dens {n = 1} κs length-k.ps
+  pub r : K.resT length-k.r κs .Denot
+  pub s : AtExit (K.endedOf 1 length-k.ps length-k.r) κs
+  pub learnt : length-r.Learnt κs a r s
+  pub left : State
+  pub is : d ≡ done (ask (wholeLength (now (a .0)))) left (lengthReply (lengthAnswerOf r)) (noOutputs) left
+
+-- A question was put to its own function.
+abbrev pub PutTo : Question → Done → Type 1
+PutTo windowNumbers d = ByNumbers d
+PutTo (nextStatSN c) d = ByNext d
+PutTo (holder n) d = ByHolder d
+PutTo (wholeLength p) d = ByLength d
 
 -- What was done was done by the function of its call: each case of `Call` has its own. The state before and after is the struct and the
 -- arrays together; the arrays that a call does not borrow stay ("written by nobody else").
@@ -187,7 +241,7 @@ CalledBy (send c t r o) d = BySend d
 CalledBy (acknowledge c e) d = ByAcknowledge d
 CalledBy (snack c p) d = BySnack d
 CalledBy (resend c n o) d = ByResend d
-CalledBy windowNumbers d = ByNumbers d
+CalledBy (ask q) d = PutTo q d
 
 abbrev pub Called : Done → Type 1
 Called d = CalledBy (d .call) d
@@ -195,6 +249,12 @@ Called d = CalledBy (d .call) d
 -- The contract that all calls share, of what was done.
 abbrev pub DidIt : Done → Type 0
 DidIt d = Did (d .call) (d .before) (d .answer) (d .out) (d .after)
+
+pub put-did : (q : Question) (d : Done) → PutTo q d → DidIt d
+put-did windowNumbers d x = subst DidIt (sym (x .is)) (x .learnt (x .commands) (x .statuses))
+put-did (nextStatSN c) d x = subst DidIt (sym (x .is)) (x .learnt (x .commands) (x .statuses))
+put-did (holder n) d x = subst DidIt (sym (x .is)) (x .learnt (x .headers) (x .statuses))
+put-did (wholeLength p) d x = subst DidIt (sym (x .is)) (x .learnt (x .left))
 
 pub called-did : (c : Call) (d : Done) → CalledBy c d → DidIt d
 called-did (offer c t p) d x = subst DidIt (sym (x .is)) (x .learnt (x .statuses))
@@ -205,7 +265,7 @@ called-did (send c t r o) d x = subst DidIt (sym (x .is)) (x .learnt (x .command
 called-did (acknowledge c e) d x = subst DidIt (sym (x .is)) (x .learnt (x .commands) (x .statuses))
 called-did (snack c p) d x = subst DidIt (sym (x .is)) (x .learnt (x .commands) (x .statuses))
 called-did (resend c n o) d x = subst DidIt (sym (x .is)) (x .learnt (x .commands))
-called-did windowNumbers d x = subst DidIt (sym (x .is)) (x .learnt (x .commands) (x .statuses))
+called-did (ask q) d x = put-did q d x
 
 -- "each on the state that the last left"
 pub data Calls : State → List Event → State → Type 1 where

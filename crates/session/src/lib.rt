@@ -1,5 +1,5 @@
-// A session whole: made fresh, and its window's two numbers. The other calls stand in session_commands, session_connections,
-// session_statuses and session_snack, over session_state. What is proved of every list of calls from a fresh session stands here (proofs/Tied).
+// A session whole: made fresh. The calls stand in session_commands, session_connections, session_statuses, session_snack and
+// session_questions, over session_state. What is proved of every list of calls from a fresh session stands here (proofs/Tied).
 use book::Given;
 use ledger::LEDGER_BYTES;
 use ledger::LEDGER_SLOTS;
@@ -8,10 +8,7 @@ use session_state::Conn;
 use session_state::Session;
 use window::WINDOW_BYTES;
 use window::WINDOW_SLOTS;
-ghost use Rattle.window.specs.Agree.{Commands};
-ghost use Rattle.ledger.specs.Agree.{Statuses};
-ghost use Rattle.book.specs.Book.{Call, Answer, noOutputs};
-ghost use Rattle.session_state.specs.Agree.{Did, IsFresh, state};
+ghost use Rattle.session_state.specs.Agree.{IsFresh};
 ghost use Rattle.session.specs.Fresh.{freshState};
 
 // A fresh session with its arrays.
@@ -21,11 +18,6 @@ pub struct FreshSession {
     pub tickets: [u32; WINDOW_SLOTS],
     pub statuses: [u8; LEDGER_BYTES],
     pub status_tickets: [u32; LEDGER_SLOTS],
-}
-
-pub struct WindowNumbers {
-    pub exp_cmd_sn: u32,
-    pub max_cmd_sn: u32,
 }
 
 // A fresh session, by what it is given: connection 0 is open, and nothing is held.
@@ -56,17 +48,5 @@ pub fn fresh(given: Given) -> FreshSession
         tickets: tickets,
         statuses: [0u8; LEDGER_BYTES],
         status_tickets: [0u32; LEDGER_SLOTS],
-    }
-}
-
-// ExpCmdSN and MaxCmdSN.
-pub fn window_numbers(s: Session) -> WindowNumbers
-    ensures { λ r. ⌜ ((k : Commands) (ss : Statuses)
-        → Did Call.windowNumbers (state s k ss) (Answer.numbers (r .«exp_cmd_sn») (r .«max_cmd_sn»)) noOutputs (state s k ss)) ⌝ }
-{
-    let w = s.window;
-    WindowNumbers {
-        exp_cmd_sn: window::exp_cmd_sn(w),
-        max_cmd_sn: window::max_cmd_sn(w),
     }
 }

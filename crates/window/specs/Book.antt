@@ -193,6 +193,21 @@ unfoldable pub logoutStep : Book → (connection reason g : ℕ) → Step
 logoutStep b c r g =
     step (loggedOut (sumOf (emptiedAt c r) (drop g (b .held))) (sumOf (voidedAt c r) (ListN.take g (b .held)))) [] (afterLogout b c r g)
 
+-- ---- who holds a number
+
+-- Nobody: it is free; it is held void; or it is held, with its ticket and the origin that it still has.
+pub data Holder : Type 0 where
+  free heldVoid : Holder
+  heldBy : (ticket : ℕ) → Origin → Holder
+
+unfoldable pub holderAt : Place → Holder
+holderAt empty = free
+holderAt (holds e) = pick (e .void) heldVoid (heldBy (e .ticket) (e .origin))
+
+-- Only "held numbers" have a place: a number that is not among the next 64 is free.
+unfoldable pub holderOf : Book → (number : ℕ) → Holder
+holderOf b n = holderAt (getD (b .held) (distance b n) empty)
+
 -- ---- the step of the book at a call
 
 unfoldable pub bookStep : Book → Call → Step

@@ -1,14 +1,14 @@
-use Rattle.book.specs.Book.{numbers}
+use Rattle.book.specs.Book.{told, numbers}
 use Rattle.capi.proofs.Unchanged.{shown-said}
 use borrow.Author.Needs.{needs}
-use Rattle.capi.proofs.calls.drawbevel_core_window.Statement.{statement}
-use Rattle.capi.proofs.calls.drawbevel_core_window.Tie as tie
+use Rattle.capi.proofs.questions.drawbevel_core_window.Statement.{statement}
+use Rattle.capi.proofs.questions.drawbevel_core_window.Tie as tie
 
 returns : tie.Need-returns
 returns c k ss =
     let call = c .before .window-numbers in
     let r = call .result in
-    shown-said (numbers (r .«exp_cmd_sn») (r .«max_cmd_sn»)) (rw (c .before .before .load .ensures) at (call .ensures k ss)) (c .numbers .ensures)
+    shown-said (told (numbers (r .«exp_cmd_sn») (r .«max_cmd_sn»))) (rw (c .before .before .load .ensures) at (call .ensures k ss)) (c .numbers .ensures)
 
 pub drawbevel-core-window-spec : {M : Type 1} → statement M
 drawbevel-core-window-spec =
