@@ -10,8 +10,8 @@ mod window;
 mod write;
 
 use calls::{
-    Engine, LoginAnswer, LogoutCounts, Numbers, Offer, Parameters, Pdu, Refusal, Response, Run,
-    Take, Window,
+    Engine, Holder, LoginAnswer, LogoutCounts, Numbers, Offer, Parameters, Pdu, Refusal, Response,
+    Run, Take, Window,
 };
 
 /// The hand-optimised engine.
@@ -84,6 +84,21 @@ impl Engine for Fast {
     #[inline]
     fn window(&self) -> Window {
         self.session.window()
+    }
+
+    #[inline]
+    fn next_stat_sn(&self, connection: u32) -> Result<u32, Refusal> {
+        self.session.next_stat_sn(connection)
+    }
+
+    #[inline]
+    fn holder(&self, number: u32) -> Holder {
+        self.session.holder(number)
+    }
+
+    #[inline]
+    fn length(&self, header: &[u8]) -> Result<u32, Refusal> {
+        read::length(header)
     }
 
     #[inline]

@@ -37,6 +37,22 @@ pub struct Out {
     pub origin: Option<u8>,
 }
 
+/// Who holds a command number.
+#[derive(Clone, Copy, Debug, PartialEq, Eq)]
+pub enum Holder {
+    /// Nobody: the number isn't held.
+    Free,
+    /// It is held as void until it is handed out: its command went with a logout.
+    Void,
+    /// A command is held.
+    Held {
+        /// The ticket given with the offer that was kept.
+        ticket: u32,
+        /// The connection it came on, or none after a logout for recovery.
+        origin: Option<u8>,
+    },
+}
+
 /// The answer to a logout.
 #[derive(Clone, Copy, Debug, PartialEq, Eq)]
 pub struct LogoutCounts {

@@ -1,8 +1,8 @@
 //! What an engine is: something that answers the calls of document 01.
 
 use crate::{
-    LoginAnswer, LogoutCounts, Numbers, Offer, Parameters, Pdu, Refusal, Response, Run, Take,
-    Window,
+    Holder, LoginAnswer, LogoutCounts, Numbers, Offer, Parameters, Pdu, Refusal, Response, Run,
+    Take, Window,
 };
 
 /// One session, one login, and the header reader and writer. Outputs are lent by the caller as slices of any length;
@@ -34,7 +34,13 @@ pub trait Engine {
     fn resend(&mut self, connection: u32, stat_sn: u32, out: &mut [u8]) -> Result<u32, Refusal>;
     /// Both numbers of the command window.
     fn window(&self) -> Window;
+    /// The next StatSN of an open connection.
+    fn next_stat_sn(&self, connection: u32) -> Result<u32, Refusal>;
+    /// Who holds a command number, any number of 32 bits.
+    fn holder(&self, number: u32) -> Holder;
 
+    /// The whole length of the PDU that begins with these bytes. Only the first 48 are looked at.
+    fn length(&self, header: &[u8]) -> Result<u32, Refusal>;
     /// Read a whole PDU.
     fn read(&self, pdu: &[u8]) -> Result<Pdu, Refusal>;
     /// Write a response's header to `out`.

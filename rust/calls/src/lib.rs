@@ -10,7 +10,7 @@ mod refusal;
 mod request;
 mod response;
 
-pub use answer::{LoginAnswer, LogoutCounts, Offer, Out, Run, Take, Window};
+pub use answer::{Holder, LoginAnswer, LogoutCounts, Offer, Out, Run, Take, Window};
 pub use engine::Engine;
 pub use parameters::Parameters;
 pub use refusal::Refusal;

@@ -2,8 +2,8 @@
 
 use crate::{Login, Session, header};
 use calls::{
-    Engine, LoginAnswer, LogoutCounts, Numbers, Offer, Parameters, Pdu, Refusal, Response, Run,
-    Take, Window,
+    Engine, Holder, LoginAnswer, LogoutCounts, Numbers, Offer, Parameters, Pdu, Refusal, Response,
+    Run, Take, Window,
 };
 
 /// One session, one login with its target's name, the reader and the writer.
@@ -78,6 +78,21 @@ impl Engine for Drawbevel {
     #[inline]
     fn window(&self) -> Window {
         self.session.window()
+    }
+
+    #[inline]
+    fn next_stat_sn(&self, connection: u32) -> Result<u32, Refusal> {
+        self.session.next_stat_sn(connection)
+    }
+
+    #[inline]
+    fn holder(&self, number: u32) -> Holder {
+        self.session.holder(number)
+    }
+
+    #[inline]
+    fn length(&self, header: &[u8]) -> Result<u32, Refusal> {
+        header::length(header)
     }
 
     #[inline]

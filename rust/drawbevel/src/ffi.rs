@@ -103,6 +103,13 @@ pub fn read<T>(
     }
 }
 
+/// 0 and the whole length of the PDU that begins with these bytes, or a refusal's number.
+#[inline]
+pub fn length(input: &[u8]) -> Packed {
+    // SAFETY: pointer and length are those of one slice, which lives through the call.
+    Packed(unsafe { drawbevel_core_length(input.as_ptr(), input.len()) })
+}
+
 /// 0 and the header in the first 48 bytes of `out`, or a refusal's number.
 #[inline]
 pub fn write(out: &mut [u8], words: &ResponseWords, numbers: [u32; 3]) -> u32 {
@@ -271,6 +278,18 @@ impl Parts {
     pub fn window(&self) -> Answer {
         answer_of(|answer| unsafe {
             drawbevel_core_window(&self.numbers, &self.maps, answer);
+        })
+    }
+
+    #[inline]
+    pub fn next_stat_sn(&self, connection: u32) -> Packed {
+        Packed(unsafe { drawbevel_core_next(&self.numbers, &self.maps, connection) })
+    }
+
+    #[inline]
+    pub fn holder(&self, number: u32) -> Answer {
+        answer_of(|answer| unsafe {
+            drawbevel_core_holder(&self.numbers, &self.maps, &self.tickets, number, answer);
         })
     }
 }

@@ -11,6 +11,16 @@ pub fn read(input: &[u8]) -> Result<Pdu, Refusal> {
     ffi::read(input, pdu_of, |number| Err(refusal_of(number, 0)))
 }
 
+/// The whole length of the PDU that begins with these bytes: what to read off a connection once its first 48 bytes are there. Bytes
+/// after the 48 aren't looked at.
+#[inline]
+pub fn length(header: &[u8]) -> Result<u32, Refusal> {
+    match ffi::length(header).parts() {
+        (0, length) => Ok(length),
+        (number, _) => Err(refusal_of(number, 0)),
+    }
+}
+
 /// Write a response's header into the first 48 bytes of `out`.
 #[inline]
 pub fn write(out: &mut [u8], numbers: Numbers, response: &Response) -> Result<(), Refusal> {

@@ -9,11 +9,11 @@ mod session;
 mod words;
 
 pub use calls::{
-    Data, Engine, LoginAnswer, LogoutCounts, Numbers, Offer, Out, Parameters, Pdu, Refusal,
+    Data, Engine, Holder, LoginAnswer, LogoutCounts, Numbers, Offer, Out, Parameters, Pdu, Refusal,
     Request, Response, Run, Take, Window,
 };
 pub use engine::Drawbevel;
-pub use header::{read, write};
+pub use header::{length, read, write};
 pub use login::Login;
 pub use session::Session;
 

@@ -2,7 +2,7 @@
 
 use crate::ffi::{Answer, Packed, Parts};
 use crate::words::{refusal_of, words_of};
-use calls::{LogoutCounts, Offer, Out, Refusal, Response, Run, Take, Window};
+use calls::{Holder, LogoutCounts, Offer, Out, Refusal, Response, Run, Take, Window};
 
 /// A session. It holds no pointer and may be moved and cloned; a clone goes its own way.
 #[derive(Clone)]
@@ -18,8 +18,15 @@ const PASSED: u32 = 35;
 const BEYOND: u32 = 36;
 const NOTHING: u32 = 38;
 const VOID: u32 = 39;
+const FREE: u32 = 41;
 /// The origin of a command that has none.
 const NO_ORIGIN: u32 = 4;
+
+/// The origin of a command, where it has one.
+#[inline]
+fn origin_of(word: u32) -> Option<u8> {
+    (word != NO_ORIGIN).then_some(word as u8)
+}
 
 /// The words after the answer's number where it is no refusal.
 #[inline]
@@ -71,7 +78,7 @@ impl Session {
             _ => Take::Out(Out {
                 cmd_sn,
                 ticket,
-                origin: (origin != NO_ORIGIN).then_some(origin as u8),
+                origin: origin_of(origin),
             }),
         })
     }
@@ -131,6 +138,27 @@ impl Session {
         Window {
             exp_cmd_sn,
             max_cmd_sn,
+        }
+    }
+
+    /// The next StatSN of an open connection.
+    #[inline]
+    pub fn next_stat_sn(&self, connection: u32) -> Result<u32, Refusal> {
+        let (_, stat_sn) = one(self.parts.next_stat_sn(connection))?;
+        Ok(stat_sn)
+    }
+
+    /// Who holds a command number, any number of 32 bits.
+    #[inline]
+    pub fn holder(&self, number: u32) -> Holder {
+        let [answer, ticket, origin, _] = self.parts.holder(number);
+        match answer {
+            FREE => Holder::Free,
+            VOID => Holder::Void,
+            _ => Holder::Held {
+                ticket,
+                origin: origin_of(origin),
+            },
         }
     }
 }

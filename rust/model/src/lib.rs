@@ -14,8 +14,8 @@ mod window;
 mod write;
 
 use calls::{
-    Engine, LoginAnswer, LogoutCounts, Numbers, Offer, Parameters, Pdu, Refusal, Response, Run,
-    Take, Window,
+    Engine, Holder, LoginAnswer, LogoutCounts, Numbers, Offer, Parameters, Pdu, Refusal, Response,
+    Run, Take, Window,
 };
 use login::Login;
 use session::Session;
@@ -85,6 +85,18 @@ impl Engine for Model {
 
     fn window(&self) -> Window {
         self.session.window()
+    }
+
+    fn next_stat_sn(&self, connection: u32) -> Result<u32, Refusal> {
+        self.session.next_stat_sn(connection)
+    }
+
+    fn holder(&self, number: u32) -> Holder {
+        self.session.holder(number)
+    }
+
+    fn length(&self, header: &[u8]) -> Result<u32, Refusal> {
+        read::length(header)
     }
 
     fn read(&self, pdu: &[u8]) -> Result<Pdu, Refusal> {

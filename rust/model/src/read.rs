@@ -18,8 +18,28 @@ pub const MAX_DATA: usize = 8192;
 /// The tag that stands for none.
 pub const NO_TAG: u32 = 0xffff_ffff;
 
+/// The whole length of the PDU that begins with these bytes. Refusals in order: under 48 bytes, opcode, too long.
+pub fn length(input: &[u8]) -> Result<u32, Refusal> {
+    let data = data_of(input)?;
+    Ok((data.offset + data.length.next_multiple_of(4)) as u32)
+}
+
 /// Read a whole PDU. Refusals in order: under 48 bytes, opcode, too long, length, fields.
 pub fn read(input: &[u8]) -> Result<Pdu, Refusal> {
+    let data = data_of(input)?;
+    if input.len() != data.offset + data.length.next_multiple_of(4) {
+        return Err(Refusal::Length);
+    }
+    let pdu = fields_of(input[0] & 0x3f, input, data);
+    if field_rules_hold(&pdu, input) {
+        Ok(pdu)
+    } else {
+        Err(Refusal::Field)
+    }
+}
+
+/// Where the header puts the data segment.
+fn data_of(input: &[u8]) -> Result<Data, Refusal> {
     if input.len() < HEADER_BYTES {
         return Err(Refusal::Length);
     }
@@ -32,15 +52,7 @@ pub fn read(input: &[u8]) -> Result<Pdu, Refusal> {
         return Err(Refusal::TooLong);
     }
     let offset = HEADER_BYTES + 4 * usize::from(input[4]);
-    if input.len() != offset + length.next_multiple_of(4) {
-        return Err(Refusal::Length);
-    }
-    let pdu = fields_of(opcode, input, Data { offset, length });
-    if field_rules_hold(&pdu, input) {
-        Ok(pdu)
-    } else {
-        Err(Refusal::Field)
-    }
+    Ok(Data { offset, length })
 }
 
 /// The fields where RFC 7143 puts them; a common field that the kind hasn't got is 0.

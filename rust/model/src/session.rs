@@ -6,7 +6,8 @@ use crate::read::{NO_TAG, read};
 use crate::window::CommandWindow;
 use crate::write::{header, judge};
 use calls::{
-    HEADER_BYTES, LogoutCounts, Numbers, Offer, Refusal, Request, Response, Run, Take, Window,
+    HEADER_BYTES, Holder, LogoutCounts, Numbers, Offer, Refusal, Request, Response, Run, Take,
+    Window,
 };
 use std::collections::BTreeMap;
 
@@ -34,10 +35,16 @@ impl Session {
     }
 
     /// The ledger of an open connection: NOCONN, then CLOSED.
-    fn ledger(&mut self, connection: u32) -> Result<&mut Ledger, Refusal> {
+    fn ledger(&self, connection: u32) -> Result<&Ledger, Refusal> {
         if connection >= CONNECTIONS {
             return Err(Refusal::NoConn);
         }
+        self.ledgers.get(&connection).ok_or(Refusal::Closed)
+    }
+
+    /// The same, to change it.
+    fn ledger_mut(&mut self, connection: u32) -> Result<&mut Ledger, Refusal> {
+        self.ledger(connection)?;
         self.ledgers.get_mut(&connection).ok_or(Refusal::Closed)
     }
 
@@ -46,6 +53,14 @@ impl Session {
             exp_cmd_sn: self.window.exp_cmd_sn(),
             max_cmd_sn: self.window.max_cmd_sn(),
         }
+    }
+
+    pub fn next_stat_sn(&self, connection: u32) -> Result<u32, Refusal> {
+        Ok(self.ledger(connection)?.next())
+    }
+
+    pub fn holder(&self, number: u32) -> Holder {
+        self.window.holder(number)
     }
 
     pub fn offer(&mut self, connection: u32, ticket: u32, pdu: &[u8]) -> Result<Offer, Refusal> {
@@ -111,7 +126,7 @@ impl Session {
     ) -> Result<u32, Refusal> {
         long_enough(out)?;
         let window = self.window();
-        let ledger = self.ledger(connection)?;
+        let ledger = self.ledger_mut(connection)?;
         judge(response)?;
         let stored = !matches!(response, Response::NopIn { itt: NO_TAG, .. });
         if stored && ledger.is_full() {
@@ -132,7 +147,7 @@ impl Session {
     }
 
     pub fn acknowledge(&mut self, connection: u32, exp_stat_sn: u32) -> Result<u32, Refusal> {
-        self.ledger(connection)?.acknowledge(exp_stat_sn)
+        self.ledger_mut(connection)?.acknowledge(exp_stat_sn)
     }
 
     pub fn snack(&mut self, connection: u32, pdu: &[u8]) -> Result<Run, Refusal> {

@@ -1,6 +1,6 @@
 //! Document 01, "The command window": held commands by their number, and every number ever handed out.
 
-use calls::{HEADER_BYTES, LogoutCounts, Offer, Out, Take};
+use calls::{HEADER_BYTES, Holder, LogoutCounts, Offer, Out, Take};
 use std::collections::{BTreeMap, HashMap};
 
 /// Places of the window.
@@ -90,6 +90,18 @@ impl CommandWindow {
         match self.handed.get(&number) {
             Some(&at) => self.hand_outs - at <= REMEMBERED,
             None => false,
+        }
+    }
+
+    /// Who holds a number.
+    pub fn holder(&self, number: u32) -> Holder {
+        match self.held.get(&number) {
+            None => Holder::Free,
+            Some(command) if command.void => Holder::Void,
+            Some(command) => Holder::Held {
+                ticket: command.ticket,
+                origin: command.origin,
+            },
         }
     }
 

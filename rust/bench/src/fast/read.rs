@@ -27,9 +27,9 @@ fn be64(h: &Header, at: usize) -> u64 {
     u64::from(be32(h, at)) << 32 | u64::from(be32(h, at + 4))
 }
 
-/// Reading's refusals but the kind's own rules; the header and where its data stand.
+/// The header and where its data stand, or the refusals that come before the input's own length counts.
 #[inline]
-fn frame(input: &[u8]) -> Result<(&Header, Data), Refusal> {
+fn stated(input: &[u8]) -> Result<(&Header, Data), Refusal> {
     let Some(h) = input.first_chunk::<HEADER_BYTES>() else {
         return Err(Refusal::Length);
     };
@@ -42,10 +42,28 @@ fn frame(input: &[u8]) -> Result<(&Header, Data), Refusal> {
     }
     let length = length as usize;
     let offset = HEADER_BYTES + 4 * usize::from(h[4]);
-    if input.len() != offset + ((length + 3) & !3) {
+    Ok((h, Data { offset, length }))
+}
+
+#[inline]
+fn whole(data: Data) -> usize {
+    data.offset + ((data.length + 3) & !3)
+}
+
+#[inline]
+pub fn length(input: &[u8]) -> Result<u32, Refusal> {
+    let (_, data) = stated(input)?;
+    Ok(whole(data) as u32)
+}
+
+/// Reading's refusals but the kind's own rules; the header and where its data stand.
+#[inline]
+fn frame(input: &[u8]) -> Result<(&Header, Data), Refusal> {
+    let (h, data) = stated(input)?;
+    if input.len() != whole(data) {
         return Err(Refusal::Length);
     }
-    Ok((h, Data { offset, length }))
+    Ok((h, data))
 }
 
 #[inline]

@@ -5,7 +5,8 @@ use super::read::{be32, offered, read};
 use super::window::CommandWindow;
 use super::write::{header, judge};
 use calls::{
-    HEADER_BYTES, LogoutCounts, Numbers, Offer, Refusal, Request, Response, Run, Take, Window,
+    HEADER_BYTES, Holder, LogoutCounts, Numbers, Offer, Refusal, Request, Response, Run, Take,
+    Window,
 };
 
 #[derive(Clone)]
@@ -41,6 +42,20 @@ impl Session {
             exp_cmd_sn: self.window.exp_cmd_sn(),
             max_cmd_sn: self.window.max_cmd_sn(),
         }
+    }
+
+    #[inline]
+    pub fn next_stat_sn(&self, connection: u32) -> Result<u32, Refusal> {
+        match self.ledgers.get(connection as usize) {
+            None => Err(Refusal::NoConn),
+            Some(ledger) if !ledger.open => Err(Refusal::Closed),
+            Some(ledger) => Ok(ledger.next()),
+        }
+    }
+
+    #[inline]
+    pub fn holder(&self, number: u32) -> Holder {
+        self.window.holder(number)
     }
 
     #[inline]

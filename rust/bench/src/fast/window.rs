@@ -1,6 +1,6 @@
 //! The window as bit maps relative to the next number; a command's slot is its number mod 64.
 
-use calls::{HEADER_BYTES, LogoutCounts, Offer, Out, Take};
+use calls::{HEADER_BYTES, Holder, LogoutCounts, Offer, Out, Take};
 
 const REMEMBERED: u32 = 1 << 31;
 
@@ -66,6 +66,22 @@ impl CommandWindow {
         self.tickets[slot] = ticket;
         self.headers[slot] = *header;
         Offer::Kept
+    }
+
+    #[inline]
+    pub fn holder(&self, number: u32) -> Holder {
+        let distance = number.wrapping_sub(self.next);
+        if distance >= 64 || self.held >> distance & 1 == 0 {
+            return Holder::Free;
+        }
+        if self.void >> distance & 1 != 0 {
+            return Holder::Void;
+        }
+        let origin = self.origins.iter().position(|map| map >> distance & 1 != 0);
+        Holder::Held {
+            ticket: self.tickets[(number & 63) as usize],
+            origin: origin.map(|c| c as u8),
+        }
     }
 
     #[inline]

@@ -12,6 +12,7 @@ unsafe extern "C" {
         common: *mut [u64; 8],
         own: *mut [u64; 9],
     ) -> u32;
+    pub fn drawbevel_core_length(input: *const u8, length: usize) -> u64;
     pub fn drawbevel_core_write(
         out: *mut u8,
         length: usize,
@@ -99,6 +100,14 @@ unsafe extern "C" {
         length: usize,
     ) -> u64;
     pub fn drawbevel_core_window(numbers: *const Numbers, maps: *const Maps, answer: *mut Answer);
+    pub fn drawbevel_core_next(numbers: *const Numbers, maps: *const Maps, connection: u32) -> u64;
+    pub fn drawbevel_core_holder(
+        numbers: *const Numbers,
+        maps: *const Maps,
+        tickets: *const Tickets,
+        number: u32,
+        answer: *mut Answer,
+    );
     pub fn drawbevel_core_login_fresh(
         numbers: *mut LoginNumbers,
         values: *mut Values,

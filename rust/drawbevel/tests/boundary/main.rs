@@ -9,6 +9,7 @@ mod expected;
 mod kinds;
 mod login_refusals;
 mod order;
+mod questions;
 mod random;
 mod raw;
 mod read_refusals;

@@ -73,6 +73,11 @@ pub fn read(pdu: &[u8], common: &mut [u64; 8], own: &mut [u64; 9]) -> u32 {
     unsafe { drawbevel_core_read(pdu.as_ptr(), pdu.len(), common, own) }
 }
 
+pub fn length(header: &[u8]) -> u64 {
+    // SAFETY: as of all calls below.
+    unsafe { drawbevel_core_length(header.as_ptr(), header.len()) }
+}
+
 pub fn write(out: &mut Lent, words: &ResponseWords, numbers: [u32; 3]) -> u32 {
     let [stat_sn, exp_cmd_sn, max_cmd_sn] = numbers;
     let (at, lent) = (out.part().as_mut_ptr(), out.lent);
@@ -161,6 +166,15 @@ impl Session {
     pub fn window(&self) -> Answer {
         let (n, m) = (&self.numbers, &self.maps);
         answer_of(|answer| unsafe { drawbevel_core_window(n, m, answer) })
+    }
+
+    pub fn next_stat_sn(&self, connection: u32) -> u64 {
+        unsafe { drawbevel_core_next(&self.numbers, &self.maps, connection) }
+    }
+
+    pub fn holder(&self, number: u32) -> Answer {
+        let (n, m, t) = (&self.numbers, &self.maps, &self.tickets);
+        answer_of(|answer| unsafe { drawbevel_core_holder(n, m, t, number, answer) })
     }
 }
 

@@ -79,7 +79,7 @@ fn checked(name: &str, s: &mut Session, a: &Arguments) -> u32 {
 }
 
 /// Sessions with one word that no call writes.
-fn odd_sessions() -> Vec<Session> {
+pub fn odd_sessions() -> Vec<Session> {
     let mut all = vec![session()];
     for word in [2, 7, 0x100, 0x101, 0x1_0001, u32::MAX] {
         for at in 0..15 {

@@ -2,8 +2,8 @@
 
 use super::{Broken, Fault, Seen, is_ping, number};
 use calls::{
-    Engine, HEADER_BYTES, LoginAnswer, LogoutCounts, Numbers, Offer, Parameters, Pdu, Refusal,
-    Response, Run, Take, Window,
+    Engine, HEADER_BYTES, Holder, LoginAnswer, LogoutCounts, Numbers, Offer, Parameters, Pdu,
+    Refusal, Response, Run, Take, Window,
 };
 
 impl<E: Engine + Clone> Broken<E> {
@@ -208,6 +208,18 @@ impl<E: Engine + Clone> Engine for Broken<E> {
             window.exp_cmd_sn = next;
         }
         window
+    }
+
+    fn next_stat_sn(&self, connection: u32) -> Result<u32, Refusal> {
+        self.inner.next_stat_sn(self.connection(connection))
+    }
+
+    fn holder(&self, number: u32) -> Holder {
+        self.inner.holder(number)
+    }
+
+    fn length(&self, header: &[u8]) -> Result<u32, Refusal> {
+        self.inner.length(header)
     }
 
     fn read(&self, pdu: &[u8]) -> Result<Pdu, Refusal> {
