@@ -6,7 +6,7 @@ mod session;
 
 pub use required::required;
 
-use calls::Offer;
+use calls::{Holder, Offer};
 use script::{Answer, Call, Played};
 use std::collections::BTreeMap;
 
@@ -80,6 +80,9 @@ fn call_name(call: &Call) -> &'static str {
         Call::Snack { .. } => "snack",
         Call::Resend { .. } => "resend",
         Call::Window => "window",
+        Call::Next { .. } => "next",
+        Call::Holder { .. } => "holder",
+        Call::Length { .. } => "length",
         Call::Read { .. } => "read",
         Call::Write { .. } => "write",
         Call::LoginBegin { .. } => "login-begin",
@@ -108,6 +111,12 @@ fn answer_name(answer: &Answer) -> String {
         Answer::Run(_) => "run",
         Answer::Resent(..) => "resent",
         Answer::Window(_) => "window",
+        Answer::Next(_) => "next",
+        Answer::Holder(Holder::Free) => "free",
+        Answer::Holder(Holder::Void) => "void",
+        Answer::Holder(Holder::Held { origin: None, .. }) => "held, origin none",
+        Answer::Holder(Holder::Held { .. }) => "held",
+        Answer::Length(_) => "length",
         Answer::Read(pdu) => pdu.request.kind(),
         Answer::Written(_) => "written",
         Answer::LoginBegun => "begun",

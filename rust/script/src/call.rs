@@ -1,7 +1,7 @@
 //! The calls of a script and their answers, as data.
 
 use calls::{
-    HEADER_BYTES, LoginAnswer, LogoutCounts, Numbers, Offer, Out, Parameters, Pdu, Refusal,
+    HEADER_BYTES, Holder, LoginAnswer, LogoutCounts, Numbers, Offer, Out, Parameters, Pdu, Refusal,
     Response, Run, Window,
 };
 
@@ -81,6 +81,21 @@ pub enum Call {
     },
     /// `window`
     Window,
+    /// `next`
+    Next {
+        /// Connection number.
+        connection: u32,
+    },
+    /// `holder`
+    Holder {
+        /// Command number.
+        number: u32,
+    },
+    /// `length`
+    Length {
+        /// The PDU, or its first bytes.
+        header: Vec<u8>,
+    },
     /// `read`
     Read {
         /// The PDU.
@@ -144,6 +159,12 @@ pub enum Answer {
     Resent(u32, [u8; HEADER_BYTES]),
     /// Both window numbers.
     Window(Window),
+    /// The next StatSN of a connection.
+    Next(u32),
+    /// Who holds a number.
+    Holder(Holder),
+    /// The whole length of a PDU.
+    Length(u32),
     /// A PDU read.
     Read(Pdu),
     /// A header written.

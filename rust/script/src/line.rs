@@ -40,6 +40,9 @@ pub fn call_line(call: &Call) -> Vec<u8> {
             lent,
         } => format!("resend {connection} {stat_sn:#x} {lent}"),
         Call::Window => "window".into(),
+        Call::Next { connection } => format!("next {connection}"),
+        Call::Holder { number } => format!("holder {number:#x}"),
+        Call::Length { header } => format!("length {}", hex(header)),
         Call::Read { pdu } => format!("read {}", hex(pdu)),
         Call::Write {
             lent,

@@ -49,6 +49,15 @@ pub fn parse(line: &[u8]) -> Option<Call> {
             lent: words.lent()?,
         },
         b"window" => Call::Window,
+        b"next" => Call::Next {
+            connection: words.u32()?,
+        },
+        b"holder" => Call::Holder {
+            number: words.u32()?,
+        },
+        b"length" => Call::Length {
+            header: words.bytes()?,
+        },
         b"read" => Call::Read {
             pdu: words.bytes()?,
         },

@@ -127,6 +127,11 @@ impl<E: Engine> Player<E> {
                 Answer::Resent,
             ),
             Call::Window => Played::plain(Ok(Answer::Window(e.window()))),
+            Call::Next { connection } => {
+                Played::plain(e.next_stat_sn(*connection).map(Answer::Next))
+            }
+            Call::Holder { number } => Played::plain(Ok(Answer::Holder(e.holder(*number)))),
+            Call::Length { header } => Played::plain(e.length(header).map(Answer::Length)),
             Call::Read { pdu } => Played::plain(e.read(pdu).map(Answer::Read)),
             Call::Write {
                 lent,

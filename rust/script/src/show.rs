@@ -2,7 +2,7 @@
 //! offsets, single bits and codes of 8 bits or less are decimal.
 
 use crate::call::Answer;
-use calls::{LoginAnswer, Offer, Parameters, Pdu, Refusal, Request};
+use calls::{Holder, LoginAnswer, Offer, Parameters, Pdu, Refusal, Request};
 use std::fmt::Write;
 
 /// Bytes as hex digits, or `-` for none.
@@ -24,12 +24,8 @@ pub fn answer_line(answer: &Answer) -> String {
         Answer::Nothing => "nothing".into(),
         Answer::Void(number) => format!("void {number:#010x}"),
         Answer::Out(out, header) => {
-            let origin = match out.origin {
-                Some(connection) => connection.to_string(),
-                None => "none".into(),
-            };
             let numbers = format!("{:#010x} {:#010x}", out.cmd_sn, out.ticket);
-            format!("out {numbers} {origin} {}", hex(header))
+            format!("out {numbers} {} {}", origin_word(out.origin), hex(header))
         }
         Answer::LoggedOut(counts) => {
             format!("emptied {} voided {}", counts.emptied, counts.voided)
@@ -43,6 +39,9 @@ pub fn answer_line(answer: &Answer) -> String {
             "expcmdsn {:#010x} maxcmdsn {:#010x}",
             window.exp_cmd_sn, window.max_cmd_sn
         ),
+        Answer::Next(stat_sn) => format!("next {stat_sn:#010x}"),
+        Answer::Holder(holder) => holder_line(*holder),
+        Answer::Length(length) => format!("length {length}"),
         Answer::Read(pdu) => pdu_line(pdu),
         Answer::Written(header) => format!("written {}", hex(header)),
         Answer::LoginBegun => "login".into(),
@@ -59,6 +58,21 @@ fn offer_word(offer: Offer) -> &'static str {
         Offer::Passed => "passed",
         Offer::Beyond => "beyond",
         Offer::Immediate => "immediate",
+    }
+}
+
+fn origin_word(origin: Option<u8>) -> String {
+    match origin {
+        Some(connection) => connection.to_string(),
+        None => "none".into(),
+    }
+}
+
+fn holder_line(holder: Holder) -> String {
+    match holder {
+        Holder::Free => "free".into(),
+        Holder::Void => "void".into(),
+        Holder::Held { ticket, origin } => format!("held {ticket:#010x} {}", origin_word(origin)),
     }
 }
 

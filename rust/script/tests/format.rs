@@ -98,6 +98,24 @@ fn what_is_no_form_is_a_bad_line() {
         "send 0 1 48 logout-response 0 0 65536 0",
         "send 0 1 48 task-response 0",
         "send 0 1 48 Reject 1",
+        "length",
+        "length 0",
+        "length 0g",
+        "length 0x00",
+        "length - -",
+        "length 00 1",
+        "next",
+        "next -",
+        "next 4294967296",
+        "next 0x100000000",
+        "next 0 0",
+        "holder",
+        "holder none",
+        "holder 4294967296",
+        "holder 0x100000000",
+        "holder 1 1",
+        "Holder 1",
+        "length-at 1 0 -",
         "reject 1",
         "bad line",
         "x",
@@ -112,6 +130,8 @@ fn a_bad_line_comes_before_a_refusal() {
     assert!(bad("offer 9 1 0"));
     assert!(bad("take 0x"));
     assert_eq!(last("offer 9 1 00"), "refused 7");
+    assert!(bad("next 9 9"));
+    assert_eq!(last("next 9"), "refused 7");
 }
 
 #[test]
@@ -241,6 +261,48 @@ fn origin_none_is_shown() {
         said.starts_with("out 0x00000001 0x00000005 none "),
         "{said}"
     );
+}
+
+#[test]
+fn lengths_are_shown_in_decimal() {
+    let said = |bytes: &[u8]| last(&format!("length {}", hex(bytes)));
+    assert_eq!(said(&pdu::nop_out(1).0), "length 48");
+    let longest = pdu::scsi_command(1).ahs(255).data(&[7; 8192]);
+    assert_eq!(said(&longest.0), "length 9260");
+    assert_eq!(said(&longest.0[..48]), "length 9260");
+    assert_eq!(said(&longest.0[..47]), "refused 4");
+    assert_eq!(last("length -"), "refused 4");
+    assert_eq!(said(&testkit::Bytes::new(0x3f, 0).0), "refused 2");
+    assert_eq!(said(&pdu::nop_out(1).field(5, 3, 8193).0), "refused 5");
+    // The longest line has room for more than the longest PDU, and what is too much isn't looked at.
+    assert_eq!(said(&longest.resized(32_764).0), "length 9260");
+}
+
+#[test]
+fn the_next_stat_sn_is_shown() {
+    assert_eq!(last("next 0"), "next 0x00000001");
+    assert_eq!(last("session 1 0xFFFFFFFF 1\nnext 0"), "next 0xffffffff");
+    let sent = "session 1 0xffffffff 1\nsend 0 7 48 reject 1\n";
+    assert_eq!(last(&format!("{sent}next 0x0")), "next 0x00000000");
+    assert_eq!(last("next 1"), "refused 8");
+    for connection in ["4", "256", "4294967295", "0xffffffff"] {
+        assert_eq!(last(&format!("next {connection}")), "refused 7");
+    }
+}
+
+#[test]
+fn holders_are_shown() {
+    let offer = |c: u32, n: u32| format!("offer {c} {n} {}\n", hex(&pdu::nop_out(n).0));
+    let script = ["open 1 1\n".into(), offer(0, 1), offer(1, 2)].concat();
+    assert_eq!(last(&format!("{script}holder 0x1")), "held 0x00000001 0");
+    assert_eq!(last(&format!("{script}holder 2")), "held 0x00000002 1");
+    let script = format!("{script}logout 1 2\nlogout 0 1\n");
+    assert_eq!(last(&format!("{script}holder 2")), "held 0x00000002 none");
+    assert_eq!(last(&format!("{script}holder 1")), "void");
+    for number in ["0", "3", "65", "4294967295", "0xFFFFFFFF"] {
+        assert_eq!(last(&format!("{script}holder {number}")), "free");
+    }
+    assert_eq!(last(&format!("{script}take 48\nholder 1")), "free");
 }
 
 #[test]
@@ -427,6 +489,11 @@ fn lines_are_read_back() {
         "snack 0 -",
         "resend 0 0x7 48",
         "window",
+        "next 3",
+        "next 4294967295",
+        "holder 0xfffffffe",
+        "length -",
+        "length 0102",
         "read 0102",
         "login-begin iqn.x",
         "login 0x9 0x7 8192 8193 43",
@@ -452,6 +519,9 @@ fn random_lines_are_answered_one_for_one() {
         "snack",
         "resend",
         "window",
+        "next",
+        "holder",
+        "length",
         "read",
         "write",
         "login-begin",
