@@ -1,5 +1,6 @@
 //! What a run reached. A clean run counts only if everything in the list of what is required was seen.
 
+mod length;
 mod login;
 mod required;
 mod session;
@@ -35,6 +36,7 @@ impl Coverage {
         if let Answer::Written(header) | Answer::Sent(_, header) = answer {
             marks.push(format!("{} {:#04x}", call_name(call), header[0]));
         }
+        length::saw(call, answer, &mut marks);
         self.session.saw(call, answer, &mut marks);
         self.login.saw(call, answer, &mut marks);
         for mark in marks {

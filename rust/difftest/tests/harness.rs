@@ -76,6 +76,7 @@ fn hollow_engines_that_agree_are_given_away() {
         (Fault::TakeAlwaysNothing, "take: out"),
         (Fault::LoginAlwaysRefused, "login: answer, T set"),
         (Fault::VoidIsNothing, "take: void"),
+        (Fault::HolderAlwaysFree, "holder: held"),
     ] {
         let report = run(broken(fault), broken(fault), SEED, CALLS, &Area::ALL).unwrap();
         assert!(

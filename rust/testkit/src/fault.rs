@@ -5,6 +5,7 @@ use std::collections::{BTreeMap, BTreeSet};
 
 mod headers;
 mod login;
+mod questions;
 mod session;
 
 /// What is wrong with an engine.
@@ -90,6 +91,50 @@ pub enum Fault {
     SnackAcknowledges,
     /// A reopened connection goes on with its old StatSN.
     ReopenedGoesOn,
+    /// A length of a short input with a bad opcode is OPCODE.
+    LengthOpcodeFirst,
+    /// A length is TOOLONG before it is OPCODE.
+    LengthTooLongFirst,
+    /// A length with 8,192 bytes of data is too long.
+    LengthLongestTooLong,
+    /// A length is without its pad.
+    LengthWithoutPad,
+    /// A length is without the additional headers.
+    LengthWithoutAhs,
+    /// A length counts additional headers in a SCSI Command only.
+    LengthAhsOfCommandsOnly,
+    /// A length of more than 48 bytes is LENGTH.
+    LengthOfHeaderOnly,
+    /// A length of any bytes but the whole PDU is LENGTH.
+    LengthOfWholeOnly,
+    /// A length is refused where a field rule is broken.
+    LengthJudgesFields,
+    /// The next StatSN is the last one sent.
+    NextIsLast,
+    /// The next StatSN is the oldest one held.
+    NextIsOldest,
+    /// The next StatSN moves with a NOP-In without a tag.
+    NextCountsPings,
+    /// The next StatSN of a closed connection is answered.
+    NextOfClosed,
+    /// The next StatSN of a reopened connection is the one before its logout until a status is sent.
+    NextGoesOn,
+    /// The holder of a void number is shown with its ticket.
+    HolderShowsVoid,
+    /// A void number is free.
+    HolderVoidIsFree,
+    /// The holder of a handed-out number is shown.
+    HolderKeepsHandedOut,
+    /// The holder of an emptied number is shown.
+    HolderKeepsEmptied,
+    /// The holder of a number outside the window is that of its place.
+    HolderByPlace,
+    /// The holder has its origin after reason 2.
+    HolderKeepsOrigin,
+    /// The holder of a number kept again has its first ticket.
+    HolderOldTicket,
+    /// The holder has a duplicate's ticket, but is handed out with its own.
+    HolderShowsDuplicate,
     /// DefaultTime2Wait isn't settled by the greater.
     Time2WaitSmaller,
     /// FirstBurstLength is bounded by MaxBurstLength.
@@ -120,13 +165,15 @@ pub enum Fault {
     OfferAlwaysBeyond,
     /// Hollow: every take is empty.
     TakeAlwaysNothing,
+    /// Hollow: every number is free.
+    HolderAlwaysFree,
     /// Hollow: every login is refused.
     LoginAlwaysRefused,
 }
 
 impl Fault {
     /// Every fault.
-    pub const ALL: [Fault; 55] = [
+    pub const ALL: [Fault; 78] = [
         Fault::OpcodeBeforeShort,
         Fault::LengthBeforeTooLong,
         Fault::PadWordTooMany,
@@ -166,6 +213,28 @@ impl Fault {
         Fault::LevelZeroServes,
         Fault::SnackAcknowledges,
         Fault::ReopenedGoesOn,
+        Fault::LengthOpcodeFirst,
+        Fault::LengthTooLongFirst,
+        Fault::LengthLongestTooLong,
+        Fault::LengthWithoutPad,
+        Fault::LengthWithoutAhs,
+        Fault::LengthAhsOfCommandsOnly,
+        Fault::LengthOfHeaderOnly,
+        Fault::LengthOfWholeOnly,
+        Fault::LengthJudgesFields,
+        Fault::NextIsLast,
+        Fault::NextIsOldest,
+        Fault::NextCountsPings,
+        Fault::NextOfClosed,
+        Fault::NextGoesOn,
+        Fault::HolderShowsVoid,
+        Fault::HolderVoidIsFree,
+        Fault::HolderKeepsHandedOut,
+        Fault::HolderKeepsEmptied,
+        Fault::HolderByPlace,
+        Fault::HolderKeepsOrigin,
+        Fault::HolderOldTicket,
+        Fault::HolderShowsDuplicate,
         Fault::Time2WaitSmaller,
         Fault::FirstBurstBounded,
         Fault::TwiceAccepted,
@@ -181,6 +250,7 @@ impl Fault {
         Fault::FullFeatureGoesOn,
         Fault::OfferAlwaysBeyond,
         Fault::TakeAlwaysNothing,
+        Fault::HolderAlwaysFree,
         Fault::LoginAlwaysRefused,
     ];
 }
@@ -201,6 +271,11 @@ struct Seen {
     /// How many statuses each connection holds.
     held: BTreeMap<u32, usize>,
     next: BTreeMap<u32, u32>,
+    /// The NOP-Ins without a tag since each connection was opened.
+    pings: BTreeMap<u32, u32>,
+    /// Each number that was kept.
+    kept: BTreeMap<u32, questions::Kept>,
+    /// The tickets of duplicates.
     tickets: BTreeMap<u32, u32>,
     sent: BTreeMap<(u32, u32), Vec<u8>>,
 }

@@ -1,6 +1,6 @@
 //! What a session reached, seen from its calls and answers alone.
 
-use calls::{Offer, Response};
+use calls::{Holder, Offer, Refusal, Response};
 use script::{Answer, Call};
 use std::collections::{BTreeMap, BTreeSet};
 
@@ -12,9 +12,14 @@ pub struct View {
     handed: u32,
     held: BTreeMap<u32, u32>,
     kept_ever: BTreeSet<u32>,
+    /// Held numbers that were kept a second time, and those that came again while held.
+    kept_again: BTreeSet<u32>,
+    duplicates: BTreeSet<u32>,
     void: u32,
     open: BTreeSet<u32>,
     closed_by: BTreeMap<u32, u8>,
+    /// Connections whose last send was a NOP-In without tag.
+    pinged: BTreeSet<u32>,
     /// The held statuses of each connection, with their headers.
     statuses: BTreeMap<u32, Vec<(u32, [u8; 48])>>,
 }
@@ -72,7 +77,82 @@ impl View {
                 }
                 self.open.insert(*connection);
             }
+            (Call::Next { connection }, _) => self.next_asked(*connection, answer, &mut mark),
+            (Call::Holder { number }, Answer::Holder(holder)) => {
+                self.holder_asked(*number, *holder, &mut mark);
+            }
             _ => self.ledger(call, answer, &mut mark),
+        }
+    }
+
+    fn next_asked(&self, connection: u32, answer: &Answer, mark: &mut impl FnMut(&str)) {
+        let closed_by = self.closed_by.get(&connection);
+        match answer {
+            Answer::Refused(Refusal::Closed) if closed_by.is_some() => {
+                mark("next: of a connection closed by a logout");
+            }
+            Answer::Refused(Refusal::Closed) => mark("next: of a connection never opened"),
+            Answer::Next(stat_sn) => {
+                if closed_by.is_some() {
+                    mark("next: of a connection opened again");
+                }
+                if self.pinged.contains(&connection) {
+                    mark("next: after a NOP-In without tag");
+                }
+                if let Some((oldest, _)) = self.statuses.get(&connection).and_then(|s| s.first()) {
+                    mark("next: with statuses held");
+                    if stat_sn < oldest {
+                        mark("next: across the wrap");
+                    }
+                }
+            }
+            _ => {}
+        }
+    }
+
+    fn holder_asked(&self, number: u32, holder: Holder, mark: &mut impl FnMut(&str)) {
+        let (ahead, back) = (
+            number.wrapping_sub(self.next),
+            self.next.wrapping_sub(number),
+        );
+        match holder {
+            Holder::Free if ahead < 64 => {
+                mark("holder: free in the window");
+                if self.kept_ever.contains(&number) {
+                    mark("holder: free, emptied");
+                }
+            }
+            Holder::Free if back < 1 << 31 => {
+                mark("holder: free behind the window");
+                if back == 1 && self.handed > 0 {
+                    mark("holder: free, handed out last");
+                }
+            }
+            Holder::Free => {
+                mark("holder: free beyond the window");
+                if ahead == 64 {
+                    mark("holder: free, the first beyond the window");
+                }
+            }
+            Holder::Void => {}
+            Holder::Held { .. } => {
+                for (is_so, text) in [
+                    (ahead == 63, "holder: held, the last of the window"),
+                    (number < self.next, "holder: held across the wrap"),
+                    (
+                        self.duplicates.contains(&number),
+                        "holder: held after a duplicate",
+                    ),
+                    (
+                        self.kept_again.contains(&number),
+                        "holder: held, kept again after it was emptied",
+                    ),
+                ] {
+                    if is_so {
+                        mark(text);
+                    }
+                }
+            }
         }
     }
 
@@ -84,10 +164,15 @@ impl View {
 
     fn offered(&mut self, connection: u32, number: u32, offer: Offer, mark: &mut impl FnMut(&str)) {
         let back = self.next.wrapping_sub(number);
+        if offer == Offer::Duplicate {
+            self.duplicates.insert(number);
+        }
         match offer {
             Offer::Kept => {
                 self.held.insert(number, connection);
+                self.duplicates.remove(&number);
                 if !self.kept_ever.insert(number) {
+                    self.kept_again.insert(number);
                     mark("kept again after it was emptied");
                 }
             }
@@ -137,6 +222,7 @@ impl View {
             self.open.remove(&each);
             self.closed_by.insert(each, reason);
             self.statuses.remove(&each);
+            self.pinged.remove(&each);
         }
         self.forget_emptied(connection, reason);
     }
@@ -175,8 +261,10 @@ impl View {
                     if held.len() == 32 {
                         mark("ledger: NOP-In without tag sent when full");
                     }
+                    self.pinged.insert(*connection);
                     return;
                 }
+                self.pinged.remove(connection);
                 held.push((*stat_sn, *header));
                 if held.len() == 32 {
                     mark("ledger: 32 held");
@@ -203,7 +291,7 @@ impl View {
                     (Answer::Resent(_, again), Some((_, sent))) if again != sent => {
                         mark("resent with other window numbers");
                     }
-                    (Answer::Refused(calls::Refusal::Snack), Some(_)) if self.level == 0 => {
+                    (Answer::Refused(Refusal::Snack), Some(_)) if self.level == 0 => {
                         mark("resend: refused at level 0 though held");
                     }
                     _ => {}
@@ -244,10 +332,10 @@ fn snack(
                 mark("run: begins at 0 with a length");
             }
         }
-        Answer::Refused(calls::Refusal::Snack) if level == 0 && all => {
+        Answer::Refused(Refusal::Snack) if level == 0 && all => {
             mark("run: refused at level 0");
         }
-        Answer::Refused(calls::Refusal::Snack) if level > 0 && run_length > 1 => {
+        Answer::Refused(Refusal::Snack) if level > 0 && run_length > 1 => {
             mark("run: refused past the end");
         }
         _ => {}

@@ -9,6 +9,9 @@ use testkit::{Bytes, Rng};
 
 /// The next call.
 pub fn call(rng: &mut Rng) -> Call {
+    if rng.one_in(4) {
+        return length(rng);
+    }
     if rng.one_in(3) {
         let numbers = Numbers {
             stat_sn: rng.u32(),
@@ -32,6 +35,37 @@ pub fn call(rng: &mut Rng) -> Call {
         }
     };
     Call::Read { pdu: pdu.0 }
+}
+
+/// A question for a PDU's length: of the whole PDU, of its header alone, and of fewer and of more bytes.
+fn length(rng: &mut Rng) -> Call {
+    let mut pdu = request(rng);
+    if rng.one_in(4) {
+        // What a header states needn't be there, and every kind may state additional headers.
+        let words = rng.pick(&[1, 2, 9, 254, 255]);
+        pdu = pdu.byte(4, words);
+    }
+    if rng.one_in(4) {
+        let stated = rng.pick(&[8188, 8189, 8191, 8192, 8193, 8196, 0x1_0000, 0xff_ffff]);
+        pdu = pdu.field(5, 3, stated);
+    }
+    if rng.one_in(8) {
+        let opcode = rng.number() as u8;
+        pdu = pdu.byte(0, opcode);
+    }
+    pdu = damage::perhaps(rng, pdu, 6);
+    let whole = pdu.0.len();
+    let end = match rng.below(12) {
+        0..=3 => 48,
+        4 => 47,
+        5 => rng.index(48),
+        6 => 48 + rng.index(40),
+        7 => whole + 1 + rng.index(40),
+        _ => whole,
+    };
+    Call::Length {
+        header: pdu.resized(end).0,
+    }
 }
 
 /// The length of a lent output: long enough, mostly.

@@ -50,6 +50,8 @@ pub struct Sessions {
     /// For each open connection its held StatSNs, oldest first, and the next.
     ledgers: BTreeMap<u32, (Vec<u32>, u32)>,
     connection: u32,
+    /// The number offered last, whatever became of it.
+    offered: u32,
 }
 
 impl Sessions {
@@ -64,6 +66,7 @@ impl Sessions {
             held: BTreeSet::new(),
             ledgers: BTreeMap::new(),
             connection: 0,
+            offered: 0,
         }
     }
 
@@ -83,6 +86,9 @@ impl Sessions {
             self.connection = self.open_connection(rng);
         }
         self.left -= 1;
+        if rng.one_in(8) {
+            return self.question(rng);
+        }
         if rng.one_in(12) {
             return self.anything(rng);
         }
@@ -96,6 +102,31 @@ impl Sessions {
             Mood::Connections => self.connections(rng),
             Mood::Anything => self.anything(rng),
         }
+    }
+
+    fn question(&self, rng: &mut Rng) -> Call {
+        if rng.one_in(3) {
+            let connection = match rng.below(8) {
+                0 => self.some_connection(rng),
+                _ => rng.below(6) as u32,
+            };
+            return Call::Next { connection };
+        }
+        let far = [63, 64, 65, 127, 128, 1 << 31];
+        let held: Vec<_> = self.held.iter().copied().collect();
+        let number = match rng.below(12) {
+            0 => self.next,
+            1 => self.next.wrapping_sub(1),
+            2 => self.next.wrapping_add(rng.pick(&far)),
+            3 => self.next.wrapping_sub(rng.pick(&far)),
+            4 => self.next.wrapping_sub(self.handed),
+            5 => rng.u32(),
+            6 => self.next.wrapping_add(rng.below(66) as u32),
+            7..=8 => self.offered,
+            _ if held.is_empty() => self.next,
+            _ => rng.pick(&held),
+        };
+        Call::Holder { number }
     }
 
     fn flow(&mut self, rng: &mut Rng) -> Call {
@@ -135,6 +166,7 @@ impl Sessions {
 
     fn offer(&mut self, rng: &mut Rng) -> Call {
         let number = self.command_number(rng);
+        self.offered = number;
         let connection = if rng.one_in(3) {
             self.open_connection(rng)
         } else {

@@ -1,5 +1,6 @@
 //! Faults in the window and the ledgers, and the wrapper's calls.
 
+use super::questions::Kept;
 use super::{Broken, Fault, Seen, is_ping, number};
 use calls::{
     Engine, HEADER_BYTES, Holder, LoginAnswer, LogoutCounts, Numbers, Offer, Parameters, Pdu,
@@ -7,7 +8,7 @@ use calls::{
 };
 
 impl<E: Engine + Clone> Broken<E> {
-    fn connection(&self, connection: u32) -> u32 {
+    pub(super) fn connection(&self, connection: u32) -> u32 {
         if self.is(Fault::ConnectionCut) {
             connection & 0xff
         } else {
@@ -15,8 +16,28 @@ impl<E: Engine + Clone> Broken<E> {
         }
     }
 
-    fn count_of(&self, connection: u32) -> usize {
+    pub(super) fn count_of(&self, connection: u32) -> usize {
         self.seen.held.get(&connection).copied().unwrap_or(0)
+    }
+}
+
+impl<E: Engine + Clone> Broken<E> {
+    /// Write down what was kept and what came again.
+    fn remember(&mut self, offer: Offer, cmd_sn: u32, ticket: u32, connection: u32) {
+        match offer {
+            Offer::Kept => {
+                let first = self.seen.kept.get(&cmd_sn);
+                let kept = Kept {
+                    ticket,
+                    connection: connection as u8,
+                    first_ticket: first.map_or(ticket, |kept| kept.first_ticket),
+                };
+                self.seen.kept.insert(cmd_sn, kept);
+                self.seen.tickets.remove(&cmd_sn);
+            }
+            Offer::Duplicate => drop(self.seen.tickets.insert(cmd_sn, ticket)),
+            _ => {}
+        }
     }
 }
 
@@ -49,11 +70,10 @@ impl<E: Engine + Clone> Engine for Broken<E> {
         match self.fault {
             Fault::BehindIsPassed if offer == Offer::Beyond && back <= 1 << 31 => Ok(Offer::Passed),
             Fault::PassedForgets if offer == Offer::Passed && back > 64 => Ok(Offer::Beyond),
-            Fault::DuplicateReplaces if offer == Offer::Duplicate => {
-                self.seen.tickets.insert(cmd_sn, ticket);
+            _ => {
+                self.remember(offer, cmd_sn, ticket, connection);
                 Ok(offer)
             }
-            _ => Ok(offer),
         }
     }
 
@@ -73,7 +93,9 @@ impl<E: Engine + Clone> Engine for Broken<E> {
                 }
             }
             Ok(Take::Out(o)) => {
-                if let Some(ticket) = self.seen.tickets.remove(&o.cmd_sn) {
+                if let Some(ticket) = self.seen.tickets.remove(&o.cmd_sn)
+                    && self.fault == Fault::DuplicateReplaces
+                {
                     o.ticket = ticket;
                 }
                 if self.is(Fault::OriginKept) && o.origin.is_none() {
@@ -116,6 +138,7 @@ impl<E: Engine + Clone> Engine for Broken<E> {
         };
         self.inner.open(self.connection(connection), shown)?;
         self.seen.open.insert(connection);
+        self.seen.pings.remove(&connection);
         Ok(())
     }
 
@@ -152,8 +175,11 @@ impl<E: Engine + Clone> Engine for Broken<E> {
                 self.seen.next.insert(connection, stat_sn.wrapping_add(1));
                 let header = out[..HEADER_BYTES].to_vec();
                 self.seen.sent.insert((connection, stat_sn), header);
-            } else if self.is(Fault::NopInStored) {
-                out[16..20].fill(0xff);
+            } else {
+                *self.seen.pings.entry(connection).or_default() += 1;
+                if self.is(Fault::NopInStored) {
+                    out[16..20].fill(0xff);
+                }
             }
         }
         self.spoil(out, &answer);
@@ -211,15 +237,15 @@ impl<E: Engine + Clone> Engine for Broken<E> {
     }
 
     fn next_stat_sn(&self, connection: u32) -> Result<u32, Refusal> {
-        self.inner.next_stat_sn(self.connection(connection))
+        self.next_with_fault(connection)
     }
 
     fn holder(&self, number: u32) -> Holder {
-        self.inner.holder(number)
+        self.holder_with_fault(number)
     }
 
     fn length(&self, header: &[u8]) -> Result<u32, Refusal> {
-        self.inner.length(header)
+        self.length_with_fault(header)
     }
 
     fn read(&self, pdu: &[u8]) -> Result<Pdu, Refusal> {

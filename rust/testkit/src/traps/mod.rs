@@ -6,6 +6,7 @@ mod login;
 mod login_keys;
 mod login_steps;
 pub mod long;
+mod questions;
 mod reading;
 mod sequences;
 mod window;
@@ -34,6 +35,7 @@ pub fn all() -> Vec<(&'static str, Check)> {
         writing::CHECKS,
         window::CHECKS,
         ledger::CHECKS,
+        questions::CHECKS,
         login::CHECKS,
         login_steps::CHECKS,
         login_keys::CHECKS,
