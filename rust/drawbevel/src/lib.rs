@@ -5,6 +5,7 @@ mod engine;
 mod ffi;
 mod header;
 mod login;
+pub mod login_response;
 mod session;
 mod words;
 
