@@ -28,7 +28,7 @@ fn text(name: &str, kind: &str) -> String {
 #[test]
 fn each_example_is_answered_as_expected() {
     let names = names();
-    for needed in ["lost-segment", "session-life", "refusals"] {
+    for needed in ["lost-segment", "who-holds", "session-life", "refusals"] {
         assert!(
             names.iter().any(|name| name == needed),
             "{needed} is missing"
@@ -73,6 +73,14 @@ fn the_refusals_show_each_number_once() {
     assert_eq!(refused, (1..=12).collect::<Vec<_>>());
 }
 
+/// The one ticket with which segment 7, the write to block 7, is handed out.
+fn ticket_of_segment_7(case: &str) -> u32 {
+    let segment = |line: &&str| line.starts_with("out ") && line.contains("2a0000000700");
+    let handed: Vec<_> = case.lines().filter(segment).collect();
+    assert_eq!(handed.len(), 1, "exactly one copy is handed out");
+    u32::from_str_radix(&handed[0][17..25], 16).unwrap()
+}
+
 /// In each case of the lost segment the words agree with the tickets that were handed out.
 #[test]
 fn the_lost_segment_is_kept_by_the_worker_named() {
@@ -87,11 +95,7 @@ fn the_lost_segment_is_kept_by_the_worker_named() {
             .unwrap();
         let worker = &said[9..10];
         let ticket = &said[said.find("0x").unwrap()..][..6];
-        // Segment 7 is the write to block 7.
-        let segment = |line: &&str| line.starts_with("out ") && line.contains("2a0000000700");
-        let handed: Vec<_> = case.lines().filter(segment).collect();
-        assert_eq!(handed.len(), 1, "exactly one copy is handed out");
-        let shown = u32::from_str_radix(&handed[0][17..25], 16).unwrap();
+        let shown = ticket_of_segment_7(case);
         assert_eq!(shown, u32::from_str_radix(&ticket[2..], 16).unwrap());
         assert_eq!(worker, if shown >= 0x1000 { "1" } else { "0" });
         workers.insert(worker);
@@ -100,5 +104,30 @@ fn the_lost_segment_is_kept_by_the_worker_named() {
         workers.len(),
         2,
         "both workers kept it in one case or another"
+    );
+}
+
+/// In each case the holder named before anything is handed out is the one whose copy is.
+#[test]
+fn the_holder_named_is_the_worker_whose_copy_is_handed_out() {
+    let expected = text("who-holds", "expected");
+    let cases: Vec<_> = expected.split("# Case ").skip(1).collect();
+    assert_eq!(cases.len(), 4);
+    let mut workers = BTreeSet::new();
+    for case in cases {
+        let (before, after) = case.split_once("# WORKER ").unwrap();
+        let mut held = before.lines().filter(|line| line.starts_with("held 0x"));
+        let named = u32::from_str_radix(&held.next_back().unwrap()[7..15], 16).unwrap();
+        assert!(!before.contains("\nout "), "nothing is handed out yet");
+        assert_eq!(named, ticket_of_segment_7(after));
+        let worker = &after[..1];
+        assert_eq!(worker, if named >= 0x1000 { "1" } else { "0" });
+        assert!(after.contains("\nfree\n"), "then nobody holds it");
+        workers.insert(worker);
+    }
+    assert_eq!(
+        workers.len(),
+        2,
+        "both workers hold it in one case or another"
     );
 }

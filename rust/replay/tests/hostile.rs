@@ -7,7 +7,7 @@ use model::Model;
 use script::hex;
 use testkit::{Rng, pdu};
 
-const WORDS: [&str; 31] = [
+const WORDS: [&str; 34] = [
     "session",
     "offer",
     "take",
@@ -18,6 +18,9 @@ const WORDS: [&str; 31] = [
     "snack",
     "resend",
     "window",
+    "next",
+    "holder",
+    "length",
     "read",
     "write",
     "login-begin",
@@ -56,7 +59,7 @@ fn line(rng: &mut Rng) -> Vec<u8> {
             "0x",
         ])
     };
-    let words = match rng.below(8) {
+    let words = match rng.below(10) {
         0 => vec!["take".into(), number(rng).into()],
         1 => vec!["logout".into(), number(rng).into(), number(rng).into()],
         2 => {
@@ -81,6 +84,14 @@ fn line(rng: &mut Rng) -> Vec<u8> {
                 "4294967295".into(),
                 hex(&bytes),
             ]
+        }
+        5 => {
+            let question = rng.pick(&["next", "holder"]);
+            vec![question.into(), number(rng).into()]
+        }
+        6 => {
+            let length = rng.index(60);
+            vec!["length".into(), hex(&rng.bytes(length))]
         }
         _ => (0..rng.index(9))
             .map(|_| rng.pick(&WORDS).to_owned())
