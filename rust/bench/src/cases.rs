@@ -1,7 +1,7 @@
 //! The calls that are timed.
 
 use crate::timing::nanoseconds;
-use calls::{Engine, HEADER_BYTES, Numbers, Response, TEXT_BYTES};
+use calls::{Engine, HEADER_BYTES, Holder, Numbers, Response, TEXT_BYTES};
 use std::hint::black_box;
 use testkit::Bytes;
 use testkit::pdu;
@@ -23,6 +23,12 @@ pub fn all<E: Engine + Default>() -> Vec<Case> {
         ("read Login", || read::<E>(pdu::login(0x87, &[b'a'; 400]))),
         ("read Logout", || read::<E>(pdu::logout(1, 1))),
         ("read SNACK", || read::<E>(pdu::snack(1, 5, 6))),
+        ("length of NOP-Out", || {
+            length::<E>(pdu::nop_out(1).data(b"ping"))
+        }),
+        ("length of SCSI Command", || {
+            length::<E>(pdu::scsi_command(1).ahs(2).data(&[7; 512]))
+        }),
         ("write NOP-In", || write::<E>(NOP_IN)),
         ("write SCSI Response", || write::<E>(SCSI)),
         ("write Login Response", || write::<E>(LOGIN)),
@@ -31,6 +37,10 @@ pub fn all<E: Engine + Default>() -> Vec<Case> {
         ("send + ack", send_ack::<E>),
         ("resend", resend::<E>),
         ("snack", snack::<E>),
+        ("next StatSN", next::<E>),
+        ("holder, held", || holder::<E>(9)),
+        ("holder, void", || holder::<E>(0)),
+        ("holder, free", || holder::<E>(40)),
         ("open + logout", open_logout::<E>),
         ("login of 19 keys", login::<E>),
     ]
@@ -68,6 +78,16 @@ fn read<E: Engine + Default>(bytes: Bytes) -> f64 {
     let engine = E::default();
     nanoseconds(|| {
         let _ = black_box(engine.read(black_box(&bytes.0)));
+    })
+}
+
+/// Of the header alone, as it is asked while the rest is still to come.
+fn length<E: Engine + Default>(bytes: Bytes) -> f64 {
+    let engine = E::default();
+    let header = &bytes.0[..HEADER_BYTES];
+    assert_eq!(engine.length(header), Ok(bytes.0.len() as u32));
+    nanoseconds(|| {
+        let _ = black_box(engine.length(black_box(header)));
     })
 }
 
@@ -162,6 +182,39 @@ fn snack<E: Engine + Default>() -> f64 {
     let bytes = pdu::snack(1, 4, 9);
     nanoseconds(|| {
         let _ = black_box(engine.snack(connection(), black_box(&bytes.0)));
+    })
+}
+
+fn next<E: Engine + Default>() -> f64 {
+    let engine = session::<E>();
+    assert_eq!(engine.next_stat_sn(connection()), Ok(17));
+    nanoseconds(|| {
+        let _ = black_box(engine.next_stat_sn(connection()));
+    })
+}
+
+/// Who holds the number in this place of the window: 32 are held, the even places void.
+fn holder<E: Engine + Default>(place: u32) -> f64 {
+    let mut engine = session::<E>();
+    let first = 0xffff_fff0u32;
+    engine.open(1, 1).unwrap();
+    for d in 0..32 {
+        let bytes = pdu::scsi_command(first.wrapping_add(d));
+        engine.offer(u32::from(d % 2 == 0), d, &bytes.0).unwrap();
+    }
+    engine.logout(1, 1).unwrap();
+    let number = first.wrapping_add(place);
+    let wanted = match place {
+        32.. => Holder::Free,
+        even if even % 2 == 0 => Holder::Void,
+        ticket => Holder::Held {
+            ticket,
+            origin: Some(0),
+        },
+    };
+    assert_eq!(engine.holder(number), wanted);
+    nanoseconds(|| {
+        black_box(engine.holder(black_box(number)));
     })
 }
 
