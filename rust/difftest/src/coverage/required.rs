@@ -106,6 +106,7 @@ const DEEP: &[&str] = &[
     "run: refused at level 0",
     "resent with other window numbers",
     "resend: refused at level 0 though held",
+    "next: of a connection number above 255",
     "next: of a connection never opened",
     "next: of a connection closed by a logout",
     "next: of a connection opened again",

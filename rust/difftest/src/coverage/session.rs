@@ -88,6 +88,9 @@ impl View {
     fn next_asked(&self, connection: u32, answer: &Answer, mark: &mut impl FnMut(&str)) {
         let closed_by = self.closed_by.get(&connection);
         match answer {
+            Answer::Refused(Refusal::NoConn) if connection > 255 => {
+                mark("next: of a connection number above 255");
+            }
             Answer::Refused(Refusal::Closed) if closed_by.is_some() => {
                 mark("next: of a connection closed by a logout");
             }

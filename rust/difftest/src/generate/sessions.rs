@@ -107,7 +107,8 @@ impl Sessions {
     fn question(&self, rng: &mut Rng) -> Call {
         if rng.one_in(3) {
             let connection = match rng.below(8) {
-                0 => self.some_connection(rng),
+                0 => rng.pick(&[255, 256, 257, 0x1_0000, 0x8000_0000, u32::MAX]),
+                1..=2 => self.connection,
                 _ => rng.below(6) as u32,
             };
             return Call::Next { connection };

@@ -19,9 +19,7 @@ impl<E: Engine + Clone> Broken<E> {
     pub(super) fn count_of(&self, connection: u32) -> usize {
         self.seen.held.get(&connection).copied().unwrap_or(0)
     }
-}
 
-impl<E: Engine + Clone> Broken<E> {
     /// Write down what was kept and what came again.
     fn remember(&mut self, offer: Offer, cmd_sn: u32, ticket: u32, connection: u32) {
         match offer {
