@@ -1,6 +1,53 @@
-/* Drawbevel: the target's half of iSCSI (RFC 7143) as a proved core. No sockets, no clocks, no heap: the caller keeps every struct
- * and buffer, and gives bytes and calls. Functions whose name starts with drawbevel_core_ are the proved ones; the inline functions
- * below them only hand over the parts of a struct. A function may be called from several threads on different sessions, not on one. */
+/* Drawbevel: the target's half of iSCSI (RFC 7143) as a proved core. No sockets, no clocks, no heap: the caller keeps every struct and buffer,
+ * and gives bytes and calls. C11 and C++17. The functions named drawbevel_core_ are the proved ones; a program calls the inline ones, which
+ * only hand over the parts of a struct.
+ *
+ * Which call answers what, refusals in the order in which they are looked for (READ: those of drawbevel_read):
+ *
+ *   drawbevel_length         OK                                           LENGTH (under 48 bytes), OPCODE, TOOLONG
+ *   drawbevel_read           OK                                           LENGTH (under 48 bytes), OPCODE, TOOLONG, LENGTH, FIELD
+ *   drawbevel_write          OK                                           BUFFER, TOOLONG, FIELD
+ *   drawbevel_offer          KEPT, DUPLICATE, PASSED, BEYOND, IMMEDIATE   NOCONN, CLOSED, READ, FIELD (another kind)
+ *   drawbevel_take           COMMAND, VOID, NOTHING                       BUFFER
+ *   drawbevel_logout         DONE                                         NOCONN, CLOSED, FIELD (a reason above 2)
+ *   drawbevel_open           DONE                                         NOCONN, OPEN
+ *   drawbevel_send           DONE                                         BUFFER, NOCONN, CLOSED, TOOLONG, FIELD, FULL
+ *   drawbevel_acknowledge    DONE                                         NOCONN, CLOSED, STALE
+ *   drawbevel_snack          DONE                                         NOCONN, CLOSED, READ, FIELD (another kind), SNACK
+ *   drawbevel_resend         DONE                                         BUFFER, NOCONN, CLOSED, SNACK
+ *   drawbevel_next_stat_sn   DONE                                         NOCONN, CLOSED
+ *   drawbevel_holder         FREE, VOID, HELD                             none
+ *   drawbevel_login_receive  OK                                           BUFFER, CLOSED, READ, FIELD (no Login, or new_handle 0), LOGIN
+ *
+ * drawbevel_fresh, drawbevel_window and drawbevel_login_fresh are never refused. A refusal changes no session, no login and no lent byte, but
+ * LOGIN ends its login. What a call hands out through a pointer is 0 after a refusal, and where its answer has no such value; but
+ * drawbevel_read leaves *pdu, and LOGIN comes with its status.
+ *
+ * Assumed: a pointer is good for the length that goes with it; the areas lent to one call overlap neither one another nor the PDU nor a
+ * struct of the call; a session or login is begun by its _fresh and changed by these functions alone. Calls on different sessions and logins
+ * may run at the same time, on one only those that take it as const.
+ *
+ * What a target does at a refusal (sections of RFC 7143). In the full feature phase:
+ *
+ *   OPCODE           Reject 0x05, command not supported (11.17.1); go on after the PDU, whose length bytes 4 to 7 state for any opcode.
+ *                    Text Request (0x04) and Data-Out (0x05) aren't read here: they are the caller's.
+ *   FIELD            Reject 0x09, invalid PDU field, of a Login Request 0x04, protocol error (11.17.1). By 7.7 (format errors) every connection
+ *                    of the session is then closed; to go on is the lenient choice.
+ *   LENGTH           The bytes given aren't one PDU: framed by drawbevel_length, the stream ended within it. Close the connection.
+ *   TOOLONG          Reject 0x04 and close the connection; the RFC leaves it to the target to read past the data and go on.
+ *   SNACK            To drawbevel_snack: Reject 0x04 for a status SNACK at a level above 0 (11.16: not sent, or acknowledged already), else
+ *                    0x03, SNACK reject; go on. To drawbevel_resend: nothing is sent, the number isn't held.
+ *   STALE            Nothing is sent, go on: initiators err here without harm (libiscsi's ExpStatSN is one ahead after an R2T).
+ *   FULL             Keep the response until statuses are acknowledged. A NOP-In with ITT 0xffffffff and a TTT is never FULL, and the
+ *                    NOP-Out that answers it (11.18) brings an ExpStatSN.
+ *   BUFFER, NOCONN, CLOSED, OPEN   The caller's own fault; nothing is sent.
+ *
+ * A Reject is sent by drawbevel_send, with the 48 bytes of the refused header as its data (11.17.4). The CmdSN of a rejected command counts
+ * as not received (7.3). In the login phase each of these is answered by drawbevel_login_refused and the connection is closed (11.13.5):
+ *
+ *   LOGIN            The status that came with it.
+ *   OPCODE, FIELD    0x020b, invalid during login, where the opcode isn't Login's; else 0x0200, initiator error.
+ *   LENGTH, TOOLONG  0x0200. */
 #ifndef DRAWBEVEL_H
 #define DRAWBEVEL_H
 
@@ -12,14 +59,15 @@
 extern "C" {
 #endif
 
-/* What a call answers. 1 to 12 are refusals: they change nothing and leave every lent byte (but 6 ends its login). */
 enum drawbevel_answer {
-    DRAWBEVEL_OK = 0,      /* a header was read or written */
+    DRAWBEVEL_OK = 0, /* a header or a login request was read, a header written */
+
+    /* refusals */
     DRAWBEVEL_BUFFER = 1,  /* a lent output is too short */
     DRAWBEVEL_OPCODE = 2,  /* no request that is read here */
     DRAWBEVEL_FIELD = 3,   /* a field rule is broken */
     DRAWBEVEL_LENGTH = 4,  /* not exactly the PDU that the header states */
-    DRAWBEVEL_TOOLONG = 5, /* the data segment is too long */
+    DRAWBEVEL_TOOLONG = 5, /* a data segment above 8,192 bytes */
     DRAWBEVEL_LOGIN = 6,   /* a rule of the login phase refuses; a status comes with it */
     DRAWBEVEL_NOCONN = 7,  /* connection number 4 or more */
     DRAWBEVEL_CLOSED = 8,  /* the connection isn't open, or the login is over */
@@ -27,25 +75,67 @@ enum drawbevel_answer {
     DRAWBEVEL_FULL = 10,   /* 32 statuses are unacknowledged */
     DRAWBEVEL_STALE = 11,  /* an ExpStatSN outside the ledger */
     DRAWBEVEL_SNACK = 12,  /* a run or number not wholly held, or SNACK isn't served */
+
     DRAWBEVEL_DONE = 32,
-    DRAWBEVEL_KEPT = 33,
-    DRAWBEVEL_DUPLICATE = 34,
-    DRAWBEVEL_PASSED = 35,
-    DRAWBEVEL_BEYOND = 36,
-    DRAWBEVEL_IMMEDIATE = 37,
-    DRAWBEVEL_NOTHING = 38,
-    DRAWBEVEL_VOID = 39,
-    DRAWBEVEL_COMMAND = 40
+    DRAWBEVEL_KEPT = 33,      /* the command is held from now on */
+    DRAWBEVEL_DUPLICATE = 34, /* its number is held already */
+    DRAWBEVEL_PASSED = 35,    /* its number was handed out */
+    DRAWBEVEL_BEYOND = 36,    /* its number is outside the window and wasn't handed out */
+    DRAWBEVEL_IMMEDIATE = 37, /* an immediate command: it isn't held, and is executed at once */
+    DRAWBEVEL_NOTHING = 38,   /* the next number isn't held */
+    DRAWBEVEL_VOID = 39,      /* the number's command went with a logout */
+    DRAWBEVEL_COMMAND = 40,   /* a command is handed out */
+    DRAWBEVEL_FREE = 41,      /* the number isn't held */
+    DRAWBEVEL_HELD = 42       /* the number's command is held */
 };
+
+/* Whether an answer is a refusal. */
+static inline bool drawbevel_is_refusal(uint32_t answer)
+{
+    return answer >= DRAWBEVEL_BUFFER && answer <= DRAWBEVEL_SNACK;
+}
+
+/* An answer's name as above without its prefix, "KEPT"; "?" for a number that is no answer. */
+static inline const char *drawbevel_answer_name(uint32_t answer)
+{
+    switch (answer) {
+    case DRAWBEVEL_OK: return "OK";
+    case DRAWBEVEL_BUFFER: return "BUFFER";
+    case DRAWBEVEL_OPCODE: return "OPCODE";
+    case DRAWBEVEL_FIELD: return "FIELD";
+    case DRAWBEVEL_LENGTH: return "LENGTH";
+    case DRAWBEVEL_TOOLONG: return "TOOLONG";
+    case DRAWBEVEL_LOGIN: return "LOGIN";
+    case DRAWBEVEL_NOCONN: return "NOCONN";
+    case DRAWBEVEL_CLOSED: return "CLOSED";
+    case DRAWBEVEL_OPEN: return "OPEN";
+    case DRAWBEVEL_FULL: return "FULL";
+    case DRAWBEVEL_STALE: return "STALE";
+    case DRAWBEVEL_SNACK: return "SNACK";
+    case DRAWBEVEL_DONE: return "DONE";
+    case DRAWBEVEL_KEPT: return "KEPT";
+    case DRAWBEVEL_DUPLICATE: return "DUPLICATE";
+    case DRAWBEVEL_PASSED: return "PASSED";
+    case DRAWBEVEL_BEYOND: return "BEYOND";
+    case DRAWBEVEL_IMMEDIATE: return "IMMEDIATE";
+    case DRAWBEVEL_NOTHING: return "NOTHING";
+    case DRAWBEVEL_VOID: return "VOID";
+    case DRAWBEVEL_COMMAND: return "COMMAND";
+    case DRAWBEVEL_FREE: return "FREE";
+    case DRAWBEVEL_HELD: return "HELD";
+    default: return "?";
+    }
+}
 
 enum {
     DRAWBEVEL_HEADER_BYTES = 48,
+    DRAWBEVEL_PDU_BYTES = 9260, /* the longest PDU that is read */
+    DRAWBEVEL_TEXT_BYTES = 8192, /* the least gather area and text output of a login */
     DRAWBEVEL_CONNECTIONS = 4,
-    DRAWBEVEL_NO_ORIGIN = 4, /* the origin of a command that has none */
-    DRAWBEVEL_TEXT_BYTES = 8192 /* the least gather area and text output of a login */
+    DRAWBEVEL_NO_ORIGIN = 4 /* the origin of a command that has none */
 };
 
-/* ---- requests read ---- */
+/* ---- PDUs: a struct for each kind. Every field is 64 bits wide, whatever its width in the header; a flag is 0 or 1. */
 
 enum drawbevel_request_kind {
     DRAWBEVEL_NOP_OUT = 0x00,
@@ -56,7 +146,6 @@ enum drawbevel_request_kind {
     DRAWBEVEL_SNACK_REQUEST = 0x10
 };
 
-/* Every field is 64 bits wide, whatever its width in the header; a bit is 1 or 0. */
 struct drawbevel_nop_out {
     uint64_t target_transfer_tag;
 };
@@ -79,7 +168,7 @@ struct drawbevel_snack_request {
 
 /* A read PDU. A common field that the kind doesn't have is 0. The data segment is input[data_start .. data_start + data_segment_length]. */
 struct drawbevel_pdu {
-    uint64_t kind; /* enum drawbevel_request_kind */
+    uint64_t kind; /* enum drawbevel_request_kind, and which member of request is set */
     uint64_t immediate, cmd_sn, lun, initiator_task_tag, exp_stat_sn, data_start, data_segment_length;
     union {
         struct drawbevel_nop_out nop_out;
@@ -88,21 +177,82 @@ struct drawbevel_pdu {
         struct drawbevel_login_request login;
         struct drawbevel_logout_request logout;
         struct drawbevel_snack_request snack;
-        uint64_t words[9];
     } request;
 };
 
+uint64_t drawbevel_core_length(const uint8_t *input, size_t length);
 uint32_t drawbevel_core_read(const uint8_t *input, size_t length, uint64_t *common8, uint64_t *own9);
 
-/* Reads a PDU of exactly this length.
- * DRAWBEVEL_OK and the PDU; or the first of LENGTH (under 48 bytes), OPCODE, TOOLONG, LENGTH, FIELD,
- * which leaves *pdu as it was. */
-static inline uint32_t drawbevel_read(const uint8_t *input, size_t length, struct drawbevel_pdu *pdu)
+/* How many bytes to receive: the whole length of the PDU that these bytes begin, of which the first 48 are looked at.
+ * At most DRAWBEVEL_PDU_BYTES. */
+static inline enum drawbevel_answer drawbevel_length(const uint8_t *input, size_t length, uint32_t *whole)
 {
-    return drawbevel_core_read(input, length, &pdu->kind, pdu->request.words);
+    uint64_t a = drawbevel_core_length(input, length);
+    *whole = (uint32_t)(a >> 32);
+    return (enum drawbevel_answer)(uint32_t)a;
 }
 
-/* ---- responses written ---- */
+/* Reads a PDU of exactly this length. */
+static inline enum drawbevel_answer drawbevel_read(const uint8_t *input, size_t length, struct drawbevel_pdu *pdu)
+{
+    uint64_t common[8], own[9];
+    enum drawbevel_answer answer = (enum drawbevel_answer)drawbevel_core_read(input, length, common, own);
+    if (answer != DRAWBEVEL_OK)
+        return answer;
+    pdu->kind = common[0];
+    pdu->immediate = common[1];
+    pdu->cmd_sn = common[2];
+    pdu->lun = common[3];
+    pdu->initiator_task_tag = common[4];
+    pdu->exp_stat_sn = common[5];
+    pdu->data_start = common[6];
+    pdu->data_segment_length = common[7];
+    switch (pdu->kind) {
+    case DRAWBEVEL_NOP_OUT:
+        pdu->request.nop_out.target_transfer_tag = own[0];
+        break;
+    case DRAWBEVEL_SCSI_COMMAND:
+        pdu->request.scsi_command.is_final = own[0];
+        pdu->request.scsi_command.is_read = own[1];
+        pdu->request.scsi_command.is_write = own[2];
+        pdu->request.scsi_command.attribute = own[3];
+        pdu->request.scsi_command.total_ahs_length = own[4];
+        pdu->request.scsi_command.expected_data_transfer_length = own[5];
+        pdu->request.scsi_command.cdb[0] = own[6];
+        pdu->request.scsi_command.cdb[1] = own[7];
+        break;
+    case DRAWBEVEL_TASK_MANAGEMENT:
+        pdu->request.task_management.function = own[0];
+        pdu->request.task_management.referenced_task_tag = own[1];
+        pdu->request.task_management.ref_cmd_sn = own[2];
+        pdu->request.task_management.exp_data_sn = own[3];
+        break;
+    case DRAWBEVEL_LOGIN_REQUEST:
+        pdu->request.login.transit = own[0];
+        pdu->request.login.continues = own[1];
+        pdu->request.login.csg = own[2];
+        pdu->request.login.nsg = own[3];
+        pdu->request.login.version_max = own[4];
+        pdu->request.login.version_min = own[5];
+        pdu->request.login.isid = own[6];
+        pdu->request.login.tsih = own[7];
+        pdu->request.login.cid = own[8];
+        break;
+    case DRAWBEVEL_LOGOUT_REQUEST:
+        pdu->request.logout.reason = own[0];
+        pdu->request.logout.cid = own[1];
+        break;
+    case DRAWBEVEL_SNACK_REQUEST:
+        pdu->request.snack.snack_type = own[0];
+        pdu->request.snack.target_transfer_tag = own[1];
+        pdu->request.snack.beg_run = own[2];
+        pdu->request.snack.run_length = own[3];
+        break;
+    default:
+        break;
+    }
+    return answer;
+}
 
 enum drawbevel_response_kind {
     DRAWBEVEL_NOP_IN = 0x20,
@@ -113,39 +263,29 @@ enum drawbevel_response_kind {
     DRAWBEVEL_REJECT = 0x3f
 };
 
-/* A flag is 0 or 1. A value too wide for its field (a flag of 2, a CSG of 4, an ISID of 2^48) is FIELD, and a data length above 8,192 TOOLONG:
- * nothing is cut. */
 struct drawbevel_nop_in {
-    uint32_t data_segment_length;
-    uint64_t lun;
-    uint32_t initiator_task_tag, target_transfer_tag;
+    uint64_t data_segment_length, lun, initiator_task_tag, target_transfer_tag;
 };
 struct drawbevel_scsi_response {
-    uint8_t overflow, underflow, response, status;
-    uint32_t data_segment_length, initiator_task_tag, snack_tag, residual_count;
+    uint64_t overflow, underflow, response, status, data_segment_length, initiator_task_tag, snack_tag, residual_count;
 };
 struct drawbevel_task_management_response {
-    uint8_t response;
-    uint32_t initiator_task_tag;
+    uint64_t response, initiator_task_tag;
 };
 struct drawbevel_login_response {
-    uint8_t transit, csg, nsg, status_class, status_detail;
-    uint32_t data_segment_length;
-    uint64_t isid; /* 48 bits */
-    uint16_t tsih;
-    uint32_t initiator_task_tag;
+    uint64_t transit, csg, nsg, data_segment_length, isid, tsih, initiator_task_tag, status_class, status_detail;
 };
 struct drawbevel_logout_response {
-    uint8_t response;
-    uint32_t initiator_task_tag;
-    uint16_t time2wait, time2retain;
+    uint64_t response, initiator_task_tag, time2wait, time2retain;
 };
 struct drawbevel_reject {
-    uint8_t reason;
+    uint64_t reason;
 };
 
+/* A response to write or send. A data length above 8,192 is TOOLONG; FIELD are another kind, a value too wide for its field (a flag of 2, a
+ * CSG of 4, an ISID of 2^48), O with U, and an NSG other than 0 with T clear: nothing is cut. Only the kind's own member of the union is read. */
 struct drawbevel_response {
-    uint32_t kind; /* enum drawbevel_response_kind; another is FIELD */
+    uint64_t kind; /* enum drawbevel_response_kind */
     union {
         struct drawbevel_nop_in nop_in;
         struct drawbevel_scsi_response scsi_response;
@@ -156,53 +296,53 @@ struct drawbevel_response {
     } of;
 };
 
-/* The response as the core takes it: its opcode and its fields. */
-static inline void drawbevel_response_words(const struct drawbevel_response *r, uint64_t w[10])
+/* The response as the core takes it: its kind and its fields. For the functions below. */
+static inline void drawbevel_response_words(const struct drawbevel_response *response, uint64_t words[10])
 {
     int i;
     for (i = 0; i < 10; i++)
-        w[i] = 0;
-    w[0] = r->kind;
-    switch (r->kind) {
+        words[i] = 0;
+    words[0] = response->kind;
+    switch (response->kind) {
     case DRAWBEVEL_NOP_IN:
-        w[1] = r->of.nop_in.data_segment_length;
-        w[2] = r->of.nop_in.lun;
-        w[3] = r->of.nop_in.initiator_task_tag;
-        w[4] = r->of.nop_in.target_transfer_tag;
+        words[1] = response->of.nop_in.data_segment_length;
+        words[2] = response->of.nop_in.lun;
+        words[3] = response->of.nop_in.initiator_task_tag;
+        words[4] = response->of.nop_in.target_transfer_tag;
         break;
     case DRAWBEVEL_SCSI_RESPONSE:
-        w[1] = r->of.scsi_response.overflow;
-        w[2] = r->of.scsi_response.underflow;
-        w[3] = r->of.scsi_response.response;
-        w[4] = r->of.scsi_response.status;
-        w[5] = r->of.scsi_response.data_segment_length;
-        w[6] = r->of.scsi_response.initiator_task_tag;
-        w[7] = r->of.scsi_response.snack_tag;
-        w[8] = r->of.scsi_response.residual_count;
+        words[1] = response->of.scsi_response.overflow;
+        words[2] = response->of.scsi_response.underflow;
+        words[3] = response->of.scsi_response.response;
+        words[4] = response->of.scsi_response.status;
+        words[5] = response->of.scsi_response.data_segment_length;
+        words[6] = response->of.scsi_response.initiator_task_tag;
+        words[7] = response->of.scsi_response.snack_tag;
+        words[8] = response->of.scsi_response.residual_count;
         break;
     case DRAWBEVEL_TASK_MANAGEMENT_RESPONSE:
-        w[1] = r->of.task_management_response.response;
-        w[2] = r->of.task_management_response.initiator_task_tag;
+        words[1] = response->of.task_management_response.response;
+        words[2] = response->of.task_management_response.initiator_task_tag;
         break;
     case DRAWBEVEL_LOGIN_RESPONSE:
-        w[1] = r->of.login_response.transit;
-        w[2] = r->of.login_response.csg;
-        w[3] = r->of.login_response.nsg;
-        w[4] = r->of.login_response.data_segment_length;
-        w[5] = r->of.login_response.isid;
-        w[6] = r->of.login_response.tsih;
-        w[7] = r->of.login_response.initiator_task_tag;
-        w[8] = r->of.login_response.status_class;
-        w[9] = r->of.login_response.status_detail;
+        words[1] = response->of.login_response.transit;
+        words[2] = response->of.login_response.csg;
+        words[3] = response->of.login_response.nsg;
+        words[4] = response->of.login_response.data_segment_length;
+        words[5] = response->of.login_response.isid;
+        words[6] = response->of.login_response.tsih;
+        words[7] = response->of.login_response.initiator_task_tag;
+        words[8] = response->of.login_response.status_class;
+        words[9] = response->of.login_response.status_detail;
         break;
     case DRAWBEVEL_LOGOUT_RESPONSE:
-        w[1] = r->of.logout_response.response;
-        w[2] = r->of.logout_response.initiator_task_tag;
-        w[3] = r->of.logout_response.time2wait;
-        w[4] = r->of.logout_response.time2retain;
+        words[1] = response->of.logout_response.response;
+        words[2] = response->of.logout_response.initiator_task_tag;
+        words[3] = response->of.logout_response.time2wait;
+        words[4] = response->of.logout_response.time2retain;
         break;
     case DRAWBEVEL_REJECT:
-        w[1] = r->of.reject.reason;
+        words[1] = response->of.reject.reason;
         break;
     default:
         break;
@@ -211,20 +351,18 @@ static inline void drawbevel_response_words(const struct drawbevel_response *r, 
 
 uint32_t drawbevel_core_write(uint8_t *out, size_t lent, const uint64_t *words10, uint32_t stat_sn, uint32_t exp_cmd_sn, uint32_t max_cmd_sn);
 
-/* Writes a response's header with these numbers into the first 48 bytes of out; later bytes stay.
- * DRAWBEVEL_OK; or the first of BUFFER (fewer than 48 bytes lent), TOOLONG, FIELD,
- * which leaves every byte of out. */
-static inline uint32_t drawbevel_write(uint8_t *out, size_t lent, const struct drawbevel_response *r, uint32_t stat_sn, uint32_t exp_cmd_sn,
-                                       uint32_t max_cmd_sn)
+/* Writes a response's header with these numbers into the first 48 bytes of out; later bytes stay. BUFFER: fewer are lent. */
+static inline enum drawbevel_answer drawbevel_write(uint8_t *out, size_t lent, const struct drawbevel_response *response, uint32_t stat_sn,
+                                                    uint32_t exp_cmd_sn, uint32_t max_cmd_sn)
 {
-    uint64_t w[10];
-    drawbevel_response_words(r, w);
-    return drawbevel_core_write(out, lent, w, stat_sn, exp_cmd_sn, max_cmd_sn);
+    uint64_t words[10];
+    drawbevel_response_words(response, words);
+    return (enum drawbevel_answer)drawbevel_core_write(out, lent, words, stat_sn, exp_cmd_sn, max_cmd_sn);
 }
 
-/* ---- a session ---- */
+/* ---- a session */
 
-/* The whole of a session: no pointers, so it may be moved and copied. Its members are the core's; only these functions change them. */
+/* The whole of a session: no pointers, so it may be moved and copied. Its members are the core's. */
 struct drawbevel_session {
     uint64_t maps[6];
     uint32_t numbers[15];
@@ -234,9 +372,9 @@ struct drawbevel_session {
     uint8_t statuses[6144];
 };
 
+/* The uint64_t of a call is its answer, and above its 32 bits the one value that it has. */
 void drawbevel_core_fresh(uint32_t *numbers15, uint64_t *maps6, uint8_t *headers, uint32_t *tickets, uint8_t *statuses, uint32_t *status_tickets,
                           uint32_t first, uint32_t stat_sn, uint8_t level);
-/* The uint64_t of a call is its answer, and above its 32 bits the one value that it has. */
 uint64_t drawbevel_core_offer(uint32_t *numbers15, uint64_t *maps6, uint8_t *headers, uint32_t *tickets, uint32_t connection, uint32_t ticket,
                               const uint8_t *pdu, size_t length);
 void drawbevel_core_take(uint32_t *numbers15, uint64_t *maps6, const uint8_t *headers, const uint32_t *tickets, uint8_t *out, size_t lent,
@@ -250,21 +388,22 @@ void drawbevel_core_snack(const uint32_t *numbers15, const uint64_t *maps6, uint
 uint64_t drawbevel_core_resend(const uint32_t *numbers15, const uint64_t *maps6, const uint8_t *statuses, const uint32_t *status_tickets,
                                uint32_t connection, uint32_t stat_sn, uint8_t *out, size_t lent);
 void drawbevel_core_window(const uint32_t *numbers15, const uint64_t *maps6, uint32_t *answer4);
+uint64_t drawbevel_core_next(const uint32_t *numbers15, const uint64_t *maps6, uint32_t connection);
+void drawbevel_core_holder(const uint32_t *numbers15, const uint64_t *maps6, const uint32_t *tickets64, uint32_t number, uint32_t *answer4);
 
-/* A fresh session: its first command number, connection 0's first StatSN and the ErrorRecoveryLevel.
- * Connection 0 is open, nothing is held.
- * Never refused. */
-static inline void drawbevel_fresh(struct drawbevel_session *s, uint32_t first, uint32_t stat_sn, uint8_t level)
+/* A fresh session: its first command number, connection 0's first StatSN and the ErrorRecoveryLevel. Connection 0 is open, nothing is held. */
+static inline void drawbevel_fresh(struct drawbevel_session *session, uint32_t first, uint32_t stat_sn, uint8_t level)
 {
-    drawbevel_core_fresh(s->numbers, s->maps, s->headers, s->tickets, s->statuses, s->status_tickets, first, stat_sn, level);
+    drawbevel_core_fresh(session->numbers, session->maps, session->headers, session->tickets, session->statuses, session->status_tickets, first,
+                         stat_sn, level);
 }
 
-/* Offers a whole PDU (NOP-Out, SCSI Command, Task Management or Logout) with a ticket on a connection.
- * KEPT, DUPLICATE, PASSED, BEYOND or IMMEDIATE;
- * or NOCONN, CLOSED, a refusal of drawbevel_read, FIELD for another kind. */
-static inline uint32_t drawbevel_offer(struct drawbevel_session *s, uint32_t connection, uint32_t ticket, const uint8_t *pdu, size_t length)
+/* Offers a whole PDU (NOP-Out, SCSI Command, Task Management or Logout) with a ticket on a connection. */
+static inline enum drawbevel_answer drawbevel_offer(struct drawbevel_session *session, uint32_t connection, uint32_t ticket, const uint8_t *pdu,
+                                                    size_t length)
 {
-    return (uint32_t)drawbevel_core_offer(s->numbers, s->maps, s->headers, s->tickets, connection, ticket, pdu, length);
+    return (enum drawbevel_answer)(uint32_t)drawbevel_core_offer(session->numbers, session->maps, session->headers, session->tickets, connection,
+                                                                 ticket, pdu, length);
 }
 
 struct drawbevel_command {
@@ -272,104 +411,114 @@ struct drawbevel_command {
     uint32_t origin; /* a connection, or DRAWBEVEL_NO_ORIGIN */
 };
 
-/* Takes the next command.
- * COMMAND, with its number, ticket and origin in *command and its header in the first 48 bytes of out; VOID, with its number; NOTHING;
- * or BUFFER. */
-static inline uint32_t drawbevel_take(struct drawbevel_session *s, uint8_t *out, size_t lent, struct drawbevel_command *command)
+/* Takes the next command: COMMAND, with its header in the first 48 bytes of out, or VOID, with its number alone. */
+static inline enum drawbevel_answer drawbevel_take(struct drawbevel_session *session, uint8_t *out, size_t lent, struct drawbevel_command *command)
 {
     uint32_t a[4];
-    drawbevel_core_take(s->numbers, s->maps, s->headers, s->tickets, out, lent, a);
+    drawbevel_core_take(session->numbers, session->maps, session->headers, session->tickets, out, lent, a);
     command->number = a[1];
     command->ticket = a[2];
     command->origin = a[3];
-    return a[0];
+    return (enum drawbevel_answer)a[0];
 }
 
-/* The effect of a logout (reason 0, 1 or 2) on an open connection; send its Logout Response before.
- * DONE, with how many commands were emptied and newly voided;
- * or NOCONN, CLOSED, FIELD. */
-static inline uint32_t drawbevel_logout(struct drawbevel_session *s, uint32_t connection, uint8_t reason, uint32_t *emptied, uint32_t *voided)
+/* The effect of a logout (reason 0, 1 or 2) on an open connection, and how many commands were emptied and newly voided. Send its Logout
+ * Response before. */
+static inline enum drawbevel_answer drawbevel_logout(struct drawbevel_session *session, uint32_t connection, uint8_t reason, uint32_t *emptied,
+                                                     uint32_t *voided)
 {
     uint32_t a[4];
-    drawbevel_core_logout(s->numbers, s->maps, connection, reason, a);
+    drawbevel_core_logout(session->numbers, session->maps, connection, reason, a);
     *emptied = a[1];
     *voided = a[2];
-    return a[0];
+    return (enum drawbevel_answer)a[0];
 }
 
-/* Opens a closed connection with its first StatSN and an empty ledger.
- * DONE;
- * or NOCONN, OPEN. */
-static inline uint32_t drawbevel_open(struct drawbevel_session *s, uint32_t connection, uint32_t stat_sn)
+/* Opens a closed connection with its first StatSN and an empty ledger. */
+static inline enum drawbevel_answer drawbevel_open(struct drawbevel_session *session, uint32_t connection, uint32_t stat_sn)
 {
-    return (uint32_t)drawbevel_core_open(s->numbers, s->maps, connection, stat_sn);
+    return (enum drawbevel_answer)(uint32_t)drawbevel_core_open(session->numbers, session->maps, connection, stat_sn);
 }
 
-/* Sends a response: its header with the next StatSN and both window numbers goes to the first 48 bytes of out, and is kept with the ticket.
- * DONE, with the StatSN (a NOP-In with ITT 0xffffffff uses up none and isn't kept);
- * or BUFFER, NOCONN, CLOSED, TOOLONG, FIELD, FULL. */
-static inline uint32_t drawbevel_send(struct drawbevel_session *s, uint32_t connection, uint32_t ticket, const struct drawbevel_response *r,
-                                      uint8_t *out, size_t lent, uint32_t *stat_sn)
+/* Sends a response: its header with the next StatSN, which is handed out, and both window numbers goes to the first 48 bytes of out, and is
+ * kept with the ticket. A NOP-In with ITT 0xffffffff uses up no StatSN and isn't kept. */
+static inline enum drawbevel_answer drawbevel_send(struct drawbevel_session *session, uint32_t connection, uint32_t ticket,
+                                                   const struct drawbevel_response *response, uint8_t *out, size_t lent, uint32_t *stat_sn)
 {
-    uint64_t w[10];
-    uint64_t a;
-    drawbevel_response_words(r, w);
-    a = drawbevel_core_send(s->numbers, s->maps, s->statuses, s->status_tickets, connection, ticket, w, out, lent);
+    uint64_t words[10], a;
+    drawbevel_response_words(response, words);
+    a = drawbevel_core_send(session->numbers, session->maps, session->statuses, session->status_tickets, connection, ticket, words, out, lent);
     *stat_sn = (uint32_t)(a >> 32);
-    return (uint32_t)a;
+    return (enum drawbevel_answer)(uint32_t)a;
 }
 
-/* Acknowledges the statuses before an ExpStatSN.
- * DONE, with how many were released;
- * or NOCONN, CLOSED, STALE. */
-static inline uint32_t drawbevel_acknowledge(struct drawbevel_session *s, uint32_t connection, uint32_t exp_stat_sn, uint32_t *released)
+/* Acknowledges the statuses before an ExpStatSN, and how many were released. */
+static inline enum drawbevel_answer drawbevel_acknowledge(struct drawbevel_session *session, uint32_t connection, uint32_t exp_stat_sn,
+                                                          uint32_t *released)
 {
-    uint64_t a = drawbevel_core_acknowledge(s->numbers, s->maps, connection, exp_stat_sn);
+    uint64_t a = drawbevel_core_acknowledge(session->numbers, session->maps, connection, exp_stat_sn);
     *released = (uint32_t)(a >> 32);
-    return (uint32_t)a;
+    return (enum drawbevel_answer)(uint32_t)a;
 }
 
-/* The run of statuses that a status SNACK asks for, each to be sent again by drawbevel_resend.
- * DONE, with the run's first number and its count;
- * or NOCONN, CLOSED, a refusal of drawbevel_read, FIELD for another kind, SNACK. */
-static inline uint32_t drawbevel_snack(const struct drawbevel_session *s, uint32_t connection, const uint8_t *pdu, size_t length, uint32_t *first,
-                                       uint32_t *count)
+/* The run of statuses that a status SNACK, a whole PDU, asks for: its first number and its count, each to be sent again by drawbevel_resend. */
+static inline enum drawbevel_answer drawbevel_snack(const struct drawbevel_session *session, uint32_t connection, const uint8_t *pdu, size_t length,
+                                                    uint32_t *first, uint32_t *count)
 {
     uint32_t a[4];
-    drawbevel_core_snack(s->numbers, s->maps, connection, pdu, length, a);
+    drawbevel_core_snack(session->numbers, session->maps, connection, pdu, length, a);
     *first = a[1];
     *count = a[2];
-    return a[0];
+    return (enum drawbevel_answer)a[0];
 }
 
-/* Sends a held status again: its header, with the window numbers of now, in the first 48 bytes of out.
- * DONE, with its ticket;
- * or BUFFER, NOCONN, CLOSED, SNACK. */
-static inline uint32_t drawbevel_resend(const struct drawbevel_session *s, uint32_t connection, uint32_t stat_sn, uint8_t *out, size_t lent,
-                                        uint32_t *ticket)
+/* Writes a held status again, with the window numbers of now, into the first 48 bytes of out, and its ticket. */
+static inline enum drawbevel_answer drawbevel_resend(const struct drawbevel_session *session, uint32_t connection, uint32_t stat_sn, uint8_t *out,
+                                                     size_t lent, uint32_t *ticket)
 {
-    uint64_t a = drawbevel_core_resend(s->numbers, s->maps, s->statuses, s->status_tickets, connection, stat_sn, out, lent);
+    uint64_t a = drawbevel_core_resend(session->numbers, session->maps, session->statuses, session->status_tickets, connection, stat_sn, out, lent);
     *ticket = (uint32_t)(a >> 32);
-    return (uint32_t)a;
+    return (enum drawbevel_answer)(uint32_t)a;
 }
 
-/* ExpCmdSN and MaxCmdSN.
- * MaxCmdSN is the next number to hand out plus 63; ExpCmdSN can be one more.
- * Never refused. */
-static inline void drawbevel_window(const struct drawbevel_session *s, uint32_t *exp_cmd_sn, uint32_t *max_cmd_sn)
+/* ExpCmdSN and MaxCmdSN. MaxCmdSN is the next number to hand out plus 63; ExpCmdSN can be one more. */
+static inline void drawbevel_window(const struct drawbevel_session *session, uint32_t *exp_cmd_sn, uint32_t *max_cmd_sn)
 {
     uint32_t a[4];
-    drawbevel_core_window(s->numbers, s->maps, a);
+    drawbevel_core_window(session->numbers, session->maps, a);
     *exp_cmd_sn = a[1];
     *max_cmd_sn = a[2];
 }
 
-/* ---- a login ---- */
+/* The next StatSN of an open connection, which an R2T carries and doesn't use up (11.8.3). */
+static inline enum drawbevel_answer drawbevel_next_stat_sn(const struct drawbevel_session *session, uint32_t connection, uint32_t *stat_sn)
+{
+    uint64_t a = drawbevel_core_next(session->numbers, session->maps, connection);
+    *stat_sn = (uint32_t)(a >> 32);
+    return (enum drawbevel_answer)(uint32_t)a;
+}
 
-/* The whole of a login between requests. Its members are the core's; only these functions change them. */
+struct drawbevel_held {
+    uint32_t ticket;
+    uint32_t origin; /* a connection, or DRAWBEVEL_NO_ORIGIN */
+};
+
+/* Whose copy of a command the session holds: HELD, with its ticket and origin, VOID, or FREE. Any number may be asked for. */
+static inline enum drawbevel_answer drawbevel_holder(const struct drawbevel_session *session, uint32_t number, struct drawbevel_held *held)
+{
+    uint32_t a[4];
+    drawbevel_core_holder(session->numbers, session->maps, session->tickets, number, a);
+    held->ticket = a[1];
+    held->origin = a[2];
+    return (enum drawbevel_answer)a[0];
+}
+
+/* ---- a login */
+
+/* The whole of a login between requests: it may be moved and copied. Its members are the core's; values is for reading. */
 struct drawbevel_login {
     uint64_t numbers[8];
-    uint32_t values[12]; /* by enum drawbevel_key: the settled parameters in force, Yes 1 and No 0 */
+    uint32_t values[12]; /* by enum drawbevel_key: the parameters in force, Yes 1 and No 0 */
     bool seen[28];
 };
 
@@ -393,12 +542,10 @@ void drawbevel_core_login(uint64_t *numbers8, uint32_t *values12, bool *seen28, 
                           const uint8_t *target_name, size_t name_length, uint8_t *gather, size_t gather_lent, uint8_t *text, size_t text_lent,
                           uint64_t *answer8);
 
-/* A login before its first request: every standard value is in force.
- * The target's name, the gather area and the handles are given with each request.
- * Never refused. */
-static inline void drawbevel_login_fresh(struct drawbevel_login *l)
+/* A login before its first request: every standard value is in force. */
+static inline void drawbevel_login_fresh(struct drawbevel_login *login)
 {
-    drawbevel_core_login_fresh(l->numbers, l->values, l->seen);
+    drawbevel_core_login_fresh(login->numbers, login->values, login->seen);
 }
 
 struct drawbevel_login_answer {
@@ -406,18 +553,19 @@ struct drawbevel_login_answer {
     uint8_t stage;   /* after the request: 0 security, 1 operational, 3 full feature */
     uint8_t transit, csg, nsg;
     uint16_t tsih;
-    size_t length; /* of the answer's text, in the first bytes of the text output */
+    size_t length; /* of the answer's text, in the first bytes of the text output; later bytes stay */
 };
 
-/* One login request. live is the live session's handle or 0, new_handle what a leading login is given; the gather area is the same one for the whole login.
- * DRAWBEVEL_OK and the answer, its text in the first bytes of text; later bytes stay;
- * or BUFFER, CLOSED, a refusal of drawbevel_read, FIELD (no Login, or new_handle 0), LOGIN with its status, which ends the login. */
-static inline uint32_t drawbevel_login_request(struct drawbevel_login *l, const uint8_t *pdu, size_t length, uint16_t live, uint16_t new_handle,
-                                               const uint8_t *target_name, size_t name_length, uint8_t *gather, size_t gather_lent, uint8_t *text,
-                                               size_t text_lent, struct drawbevel_login_answer *answer)
+/* One Login Request, a whole PDU. live is the handle (TSIH) of the live session or 0, new_handle what a leading login is given, the gather area
+ * the same one for the whole login. LOGIN ends the login. */
+static inline enum drawbevel_answer drawbevel_login_receive(struct drawbevel_login *login, const uint8_t *pdu, size_t length, uint16_t live,
+                                                            uint16_t new_handle, const uint8_t *target_name, size_t name_length, uint8_t *gather,
+                                                            size_t gather_lent, uint8_t *text, size_t text_lent,
+                                                            struct drawbevel_login_answer *answer)
 {
     uint64_t a[8];
-    drawbevel_core_login(l->numbers, l->values, l->seen, pdu, length, live, new_handle, target_name, name_length, gather, gather_lent, text, text_lent, a);
+    drawbevel_core_login(login->numbers, login->values, login->seen, pdu, length, live, new_handle, target_name, name_length, gather, gather_lent, text,
+                         text_lent, a);
     answer->status = (uint16_t)a[1];
     answer->stage = (uint8_t)a[2];
     answer->transit = (uint8_t)a[3];
@@ -425,7 +573,48 @@ static inline uint32_t drawbevel_login_request(struct drawbevel_login *l, const 
     answer->nsg = (uint8_t)a[5];
     answer->tsih = (uint16_t)a[6];
     answer->length = (size_t)a[7];
-    return (uint32_t)a[0];
+    return (enum drawbevel_answer)a[0];
+}
+
+/* The Login Response to a Login Request, as drawbevel_read shows it, that drawbevel_login_receive answered OK. drawbevel_write takes it with
+ *   StatSN: on the connection's first response any number, on each further one the last plus one (11.13.4);
+ *   ExpCmdSN and MaxCmdSN: the request's CmdSN, which Login Requests don't use up (11.12.8), and that plus 63; on a connection that joins a
+ *   live session those of drawbevel_window.
+ * After the last one drawbevel_fresh begins the session with the request's CmdSN as its first number and the settled ErrorRecoveryLevel, or
+ * drawbevel_open joins the connection; stat_sn of either is the last response's StatSN plus one. */
+static inline struct drawbevel_response drawbevel_login_accepted(const struct drawbevel_pdu *pdu, const struct drawbevel_login_answer *answer)
+{
+    struct drawbevel_response response;
+    response.kind = DRAWBEVEL_LOGIN_RESPONSE;
+    response.of.login_response.transit = answer->transit;
+    response.of.login_response.csg = answer->csg;
+    response.of.login_response.nsg = answer->nsg;
+    response.of.login_response.data_segment_length = answer->length;
+    response.of.login_response.isid = pdu->request.login.isid;
+    response.of.login_response.tsih = answer->tsih;
+    response.of.login_response.initiator_task_tag = pdu->initiator_task_tag;
+    response.of.login_response.status_class = 0;
+    response.of.login_response.status_detail = 0;
+    return response;
+}
+
+/* The Login Response that refuses a login with a status; its StatSN, ExpCmdSN and MaxCmdSN mean nothing (11.13.5). Of a PDU of another kind it
+ * has the Initiator Task Tag alone; where none could be read, give a zeroed struct. */
+static inline struct drawbevel_response drawbevel_login_refused(const struct drawbevel_pdu *pdu, uint16_t status)
+{
+    bool is_login = pdu->kind == DRAWBEVEL_LOGIN_REQUEST;
+    struct drawbevel_response response;
+    response.kind = DRAWBEVEL_LOGIN_RESPONSE;
+    response.of.login_response.transit = 0;
+    response.of.login_response.csg = is_login ? pdu->request.login.csg : 0;
+    response.of.login_response.nsg = 0;
+    response.of.login_response.data_segment_length = 0;
+    response.of.login_response.isid = is_login ? pdu->request.login.isid : 0;
+    response.of.login_response.tsih = is_login ? pdu->request.login.tsih : 0;
+    response.of.login_response.initiator_task_tag = pdu->initiator_task_tag;
+    response.of.login_response.status_class = status >> 8;
+    response.of.login_response.status_detail = status & 0xff;
+    return response;
 }
 
 #ifdef __cplusplus

@@ -1,0 +1,123 @@
+//! `include/drawbevel.h` under test: its inline functions, structs and constants, in C and in C++, as an engine against the model.
+
+mod checks;
+mod declared;
+mod shim;
+
+use difftest::{Area, Report, run, seed};
+use model::Model;
+use shim::Library;
+use std::fs;
+use std::path::{Path, PathBuf};
+use testkit::c::{Language, compile, include};
+use testkit::traps;
+
+const SEED: u64 = 64_000_001;
+
+/// A folder of our own for what is compiled.
+fn scratch(name: &str) -> PathBuf {
+    let folder = Path::new(env!("CARGO_TARGET_TMPDIR"))
+        .join("header")
+        .join(name);
+    fs::create_dir_all(&folder).unwrap();
+    folder
+}
+
+fn header() -> String {
+    fs::read_to_string(include().join("drawbevel.h")).unwrap()
+}
+
+fn library(language: Language) -> Library {
+    let object = scratch(language.compiler()).join("shim.so");
+    Library::compiled(language, &include(), &object)
+}
+
+/// The checks and traps, and a differential run of so many calls.
+fn put_to_the_test(library: &Library, calls: usize) -> Report {
+    for (_, check) in checks::ALL {
+        check(library);
+    }
+    traps::run(|| library.engine());
+    let engine = library.engine();
+    run(Model::default(), engine, seed(SEED), calls, &Area::ALL).unwrap()
+}
+
+#[test]
+fn the_header_in_c_answers_as_the_model() {
+    let report = put_to_the_test(&library(Language::C), 210_000);
+    report.coverage.assert_whole();
+}
+
+#[test]
+fn the_header_in_cpp_answers_as_the_model() {
+    let report = put_to_the_test(&library(Language::Cpp), 42_000);
+    assert!(report.calls >= 42_000);
+}
+
+/// What is declared and not used by the shim isn't tested.
+#[test]
+fn the_shim_uses_all_that_the_header_declares() {
+    let (header, shim) = (header(), include_str!("shim.c"));
+    let used = declared::identifiers(shim);
+    let mut wanted = declared::constants(&header);
+    wanted.extend(declared::functions(&header));
+    assert!(wanted.contains("DRAWBEVEL_HELD") && wanted.contains("drawbevel_login_refused"));
+    let missing: Vec<_> = wanted.difference(&used).collect();
+    assert!(missing.is_empty(), "not in shim.c: {missing:?}");
+    let past = |word: &&String| word.starts_with("drawbevel_core_");
+    assert_eq!(used.iter().find(past), None, "shim.c goes past the header");
+}
+
+/// The fields of a struct that is a member of a PDU's union are named with that member.
+#[test]
+fn the_shim_uses_every_field() {
+    let structs = declared::structs(&header());
+    let used = declared::members(include_str!("shim.c"));
+    let of_unions: Vec<_> = structs
+        .iter()
+        .filter(|each| each.name == "drawbevel_pdu" || each.name == "drawbevel_response")
+        .flat_map(|each| &each.fields)
+        .collect();
+    let mut seen = Vec::new();
+    for each in &structs {
+        let member = of_unions.iter().find(|(kind, _)| *kind == each.name);
+        let of = member.map(|(_, name)| name);
+        for (_, field) in &each.fields {
+            // The core's own: nobody else reads or sets them.
+            let is_inner = each.name == "drawbevel_session"
+                || each.name == "drawbevel_login" && field != "values";
+            let is_used = |(a, b): &(String, String)| b == field && of.is_none_or(|of| a == of);
+            let is_used = used.iter().any(is_used);
+            assert!(is_inner || is_used, "not in shim.c: {}, {field}", each.name);
+            seen.push(format!("{}, {field}", each.name));
+        }
+    }
+    for known in [
+        "drawbevel_scsi_command, cdb",
+        "drawbevel_login_request, cid",
+        "drawbevel_response, reject",
+        "drawbevel_login_answer, length",
+    ] {
+        assert!(seen.iter().any(|each| each == known), "{known} wasn't seen");
+    }
+}
+
+/// In C++ a struct is named without `struct`, unless a function of the same name hides it.
+#[test]
+fn cpp_names_every_struct() {
+    let names: Vec<_> = declared::structs(&header())
+        .into_iter()
+        .map(|each| each.name)
+        .collect();
+    assert!(names.iter().any(|name| name == "drawbevel_login_request"));
+    let mut program = String::from("#include <drawbevel.h>\n");
+    for name in names {
+        program += &format!("extern {name} *some_{name};\n");
+    }
+    let source = scratch("names").join("names.cpp");
+    fs::write(&source, program).unwrap();
+    let arguments = ["-fsyntax-only"];
+    for compiler in Language::Cpp.compilers() {
+        compile(compiler, Language::Cpp, &include(), &source, &arguments);
+    }
+}

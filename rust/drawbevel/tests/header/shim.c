@@ -1,0 +1,432 @@
+/* drawbevel.h as an engine of the tests: every function, struct and constant of it, by name. What comes from the tests and goes to them are the
+ * numbers of the rules and of RFC 7143, written out here, so that a number or a place in the header that is another's is seen. */
+#include <drawbevel.h>
+#include <stdlib.h>
+#include <string.h>
+
+#ifdef __cplusplus
+#define EXPORT extern "C"
+#else
+#define EXPORT
+#endif
+
+enum {
+    NO_ANSWER = 1000, /* a number that the header has no name for */
+    TOUCHED = 1001,   /* a refused read that changed the PDU */
+    NONE = 255        /* no origin */
+};
+
+/* What a struct is filled with before a call: a field that isn't set shows. */
+static const int FILL = 0xa5;
+
+struct shim {
+    struct drawbevel_session session;
+    struct drawbevel_login login;
+};
+
+static uint32_t number(enum drawbevel_answer answer)
+{
+    switch (answer) {
+    case DRAWBEVEL_OK: return 0;
+    case DRAWBEVEL_BUFFER: return 1;
+    case DRAWBEVEL_OPCODE: return 2;
+    case DRAWBEVEL_FIELD: return 3;
+    case DRAWBEVEL_LENGTH: return 4;
+    case DRAWBEVEL_TOOLONG: return 5;
+    case DRAWBEVEL_LOGIN: return 6;
+    case DRAWBEVEL_NOCONN: return 7;
+    case DRAWBEVEL_CLOSED: return 8;
+    case DRAWBEVEL_OPEN: return 9;
+    case DRAWBEVEL_FULL: return 10;
+    case DRAWBEVEL_STALE: return 11;
+    case DRAWBEVEL_SNACK: return 12;
+    case DRAWBEVEL_DONE: return 32;
+    case DRAWBEVEL_KEPT: return 33;
+    case DRAWBEVEL_DUPLICATE: return 34;
+    case DRAWBEVEL_PASSED: return 35;
+    case DRAWBEVEL_BEYOND: return 36;
+    case DRAWBEVEL_IMMEDIATE: return 37;
+    case DRAWBEVEL_NOTHING: return 38;
+    case DRAWBEVEL_VOID: return 39;
+    case DRAWBEVEL_COMMAND: return 40;
+    case DRAWBEVEL_FREE: return 41;
+    case DRAWBEVEL_HELD: return 42;
+    default: return NO_ANSWER;
+    }
+}
+
+static uint64_t origin_of(uint32_t origin)
+{
+    return origin == DRAWBEVEL_NO_ORIGIN ? (uint64_t)NONE : origin;
+}
+
+/* The response of an opcode and its fields, in the order of RFC 7143's pictures; another opcode becomes a kind as it stands. */
+static struct drawbevel_response response_of(uint64_t opcode, const uint64_t fields[9])
+{
+    struct drawbevel_response r;
+    memset(&r, FILL, sizeof r);
+    switch (opcode) {
+    case 0x20:
+        r.kind = DRAWBEVEL_NOP_IN;
+        r.of.nop_in.data_segment_length = fields[0];
+        r.of.nop_in.lun = fields[1];
+        r.of.nop_in.initiator_task_tag = fields[2];
+        r.of.nop_in.target_transfer_tag = fields[3];
+        break;
+    case 0x21:
+        r.kind = DRAWBEVEL_SCSI_RESPONSE;
+        r.of.scsi_response.overflow = fields[0];
+        r.of.scsi_response.underflow = fields[1];
+        r.of.scsi_response.response = fields[2];
+        r.of.scsi_response.status = fields[3];
+        r.of.scsi_response.data_segment_length = fields[4];
+        r.of.scsi_response.initiator_task_tag = fields[5];
+        r.of.scsi_response.snack_tag = fields[6];
+        r.of.scsi_response.residual_count = fields[7];
+        break;
+    case 0x22:
+        r.kind = DRAWBEVEL_TASK_MANAGEMENT_RESPONSE;
+        r.of.task_management_response.response = fields[0];
+        r.of.task_management_response.initiator_task_tag = fields[1];
+        break;
+    case 0x23:
+        r.kind = DRAWBEVEL_LOGIN_RESPONSE;
+        r.of.login_response.transit = fields[0];
+        r.of.login_response.csg = fields[1];
+        r.of.login_response.nsg = fields[2];
+        r.of.login_response.data_segment_length = fields[3];
+        r.of.login_response.isid = fields[4];
+        r.of.login_response.tsih = fields[5];
+        r.of.login_response.initiator_task_tag = fields[6];
+        r.of.login_response.status_class = fields[7];
+        r.of.login_response.status_detail = fields[8];
+        break;
+    case 0x26:
+        r.kind = DRAWBEVEL_LOGOUT_RESPONSE;
+        r.of.logout_response.response = fields[0];
+        r.of.logout_response.initiator_task_tag = fields[1];
+        r.of.logout_response.time2wait = fields[2];
+        r.of.logout_response.time2retain = fields[3];
+        break;
+    case 0x3f:
+        r.kind = DRAWBEVEL_REJECT;
+        r.of.reject.reason = fields[0];
+        break;
+    default:
+        r.kind = opcode;
+        break;
+    }
+    return r;
+}
+
+/* A Login Response's opcode and fields; opcode 0 for a response of another kind. */
+static void login_response_fields(const struct drawbevel_response *r, uint64_t answer[10])
+{
+    answer[0] = r->kind == DRAWBEVEL_LOGIN_RESPONSE ? 0x23 : 0;
+    answer[1] = r->of.login_response.transit;
+    answer[2] = r->of.login_response.csg;
+    answer[3] = r->of.login_response.nsg;
+    answer[4] = r->of.login_response.data_segment_length;
+    answer[5] = r->of.login_response.isid;
+    answer[6] = r->of.login_response.tsih;
+    answer[7] = r->of.login_response.initiator_task_tag;
+    answer[8] = r->of.login_response.status_class;
+    answer[9] = r->of.login_response.status_detail;
+}
+
+EXPORT struct shim *shim_make(void)
+{
+    struct shim *shim = (struct shim *)malloc(sizeof(struct shim));
+    if (!shim)
+        abort();
+    memset(shim, FILL, sizeof *shim);
+    drawbevel_fresh(&shim->session, 1, 1, 0);
+    drawbevel_login_fresh(&shim->login);
+    return shim;
+}
+
+EXPORT void shim_drop(struct shim *shim)
+{
+    free(shim);
+}
+
+/* ---- what belongs to no session or login */
+
+EXPORT void shim_sizes(uint64_t answer[5])
+{
+    answer[0] = DRAWBEVEL_HEADER_BYTES;
+    answer[1] = DRAWBEVEL_PDU_BYTES;
+    answer[2] = DRAWBEVEL_TEXT_BYTES;
+    answer[3] = DRAWBEVEL_CONNECTIONS;
+    answer[4] = DRAWBEVEL_NO_ORIGIN;
+}
+
+EXPORT uint32_t shim_is_refusal(uint32_t answer)
+{
+    return drawbevel_is_refusal(answer);
+}
+
+EXPORT const char *shim_answer_name(uint32_t answer)
+{
+    return drawbevel_answer_name(answer);
+}
+
+EXPORT uint32_t shim_length(const uint8_t *input, size_t length, uint64_t answer[1])
+{
+    uint32_t whole = (uint32_t)FILL;
+    uint32_t said = number(drawbevel_length(input, length, &whole));
+    answer[0] = whole;
+    return said;
+}
+
+/* The answer: opcode, seven common fields, and the kind's own in the order of RFC 7143's pictures. */
+EXPORT uint32_t shim_read(const uint8_t *input, size_t length, uint64_t answer[17])
+{
+    struct drawbevel_pdu pdu, before;
+    uint32_t said;
+    memset(&pdu, FILL, sizeof pdu);
+    memcpy(&before, &pdu, sizeof pdu);
+    said = number(drawbevel_read(input, length, &pdu));
+    if (said != 0)
+        return memcmp(&before, &pdu, sizeof pdu) == 0 ? said : (uint32_t)TOUCHED;
+    answer[1] = pdu.immediate;
+    answer[2] = pdu.cmd_sn;
+    answer[3] = pdu.lun;
+    answer[4] = pdu.initiator_task_tag;
+    answer[5] = pdu.exp_stat_sn;
+    answer[6] = pdu.data_start;
+    answer[7] = pdu.data_segment_length;
+    switch (pdu.kind) {
+    case DRAWBEVEL_NOP_OUT:
+        answer[0] = 0x00;
+        answer[8] = pdu.request.nop_out.target_transfer_tag;
+        break;
+    case DRAWBEVEL_SCSI_COMMAND:
+        answer[0] = 0x01;
+        answer[8] = pdu.request.scsi_command.is_final;
+        answer[9] = pdu.request.scsi_command.is_read;
+        answer[10] = pdu.request.scsi_command.is_write;
+        answer[11] = pdu.request.scsi_command.attribute;
+        answer[12] = pdu.request.scsi_command.total_ahs_length;
+        answer[13] = pdu.request.scsi_command.expected_data_transfer_length;
+        answer[14] = pdu.request.scsi_command.cdb[0];
+        answer[15] = pdu.request.scsi_command.cdb[1];
+        break;
+    case DRAWBEVEL_TASK_MANAGEMENT:
+        answer[0] = 0x02;
+        answer[8] = pdu.request.task_management.function;
+        answer[9] = pdu.request.task_management.referenced_task_tag;
+        answer[10] = pdu.request.task_management.ref_cmd_sn;
+        answer[11] = pdu.request.task_management.exp_data_sn;
+        break;
+    case DRAWBEVEL_LOGIN_REQUEST:
+        answer[0] = 0x03;
+        answer[8] = pdu.request.login.transit;
+        answer[9] = pdu.request.login.continues;
+        answer[10] = pdu.request.login.csg;
+        answer[11] = pdu.request.login.nsg;
+        answer[12] = pdu.request.login.version_max;
+        answer[13] = pdu.request.login.version_min;
+        answer[14] = pdu.request.login.isid;
+        answer[15] = pdu.request.login.tsih;
+        answer[16] = pdu.request.login.cid;
+        break;
+    case DRAWBEVEL_LOGOUT_REQUEST:
+        answer[0] = 0x06;
+        answer[8] = pdu.request.logout.reason;
+        answer[9] = pdu.request.logout.cid;
+        break;
+    case DRAWBEVEL_SNACK_REQUEST:
+        answer[0] = 0x10;
+        answer[8] = pdu.request.snack.snack_type;
+        answer[9] = pdu.request.snack.target_transfer_tag;
+        answer[10] = pdu.request.snack.beg_run;
+        answer[11] = pdu.request.snack.run_length;
+        break;
+    default:
+        return NO_ANSWER;
+    }
+    return said;
+}
+
+EXPORT uint32_t shim_write(uint8_t *out, size_t lent, uint64_t opcode, const uint64_t fields[9], uint32_t stat_sn, uint32_t exp_cmd_sn,
+                           uint32_t max_cmd_sn)
+{
+    struct drawbevel_response r = response_of(opcode, fields);
+    return number(drawbevel_write(out, lent, &r, stat_sn, exp_cmd_sn, max_cmd_sn));
+}
+
+/* ---- a session */
+
+EXPORT void shim_fresh(struct shim *shim, uint32_t first, uint32_t stat_sn, uint8_t level)
+{
+    memset(&shim->session, FILL, sizeof shim->session);
+    drawbevel_fresh(&shim->session, first, stat_sn, level);
+}
+
+EXPORT uint32_t shim_offer(struct shim *shim, uint32_t connection, uint32_t ticket, const uint8_t *pdu, size_t length)
+{
+    return number(drawbevel_offer(&shim->session, connection, ticket, pdu, length));
+}
+
+EXPORT uint32_t shim_take(struct shim *shim, uint8_t *out, size_t lent, uint64_t answer[3])
+{
+    struct drawbevel_command command;
+    uint32_t said;
+    memset(&command, FILL, sizeof command);
+    said = number(drawbevel_take(&shim->session, out, lent, &command));
+    answer[0] = command.number;
+    answer[1] = command.ticket;
+    answer[2] = origin_of(command.origin);
+    return said;
+}
+
+EXPORT uint32_t shim_logout(struct shim *shim, uint32_t connection, uint8_t reason, uint64_t answer[2])
+{
+    uint32_t emptied = (uint32_t)FILL, voided = (uint32_t)FILL;
+    uint32_t said = number(drawbevel_logout(&shim->session, connection, reason, &emptied, &voided));
+    answer[0] = emptied;
+    answer[1] = voided;
+    return said;
+}
+
+EXPORT uint32_t shim_open(struct shim *shim, uint32_t connection, uint32_t stat_sn)
+{
+    return number(drawbevel_open(&shim->session, connection, stat_sn));
+}
+
+EXPORT uint32_t shim_send(struct shim *shim, uint32_t connection, uint32_t ticket, uint64_t opcode, const uint64_t fields[9], uint8_t *out,
+                          size_t lent, uint64_t answer[1])
+{
+    struct drawbevel_response r = response_of(opcode, fields);
+    uint32_t stat_sn = (uint32_t)FILL;
+    uint32_t said = number(drawbevel_send(&shim->session, connection, ticket, &r, out, lent, &stat_sn));
+    answer[0] = stat_sn;
+    return said;
+}
+
+EXPORT uint32_t shim_acknowledge(struct shim *shim, uint32_t connection, uint32_t exp_stat_sn, uint64_t answer[1])
+{
+    uint32_t released = (uint32_t)FILL;
+    uint32_t said = number(drawbevel_acknowledge(&shim->session, connection, exp_stat_sn, &released));
+    answer[0] = released;
+    return said;
+}
+
+EXPORT uint32_t shim_snack(const struct shim *shim, uint32_t connection, const uint8_t *pdu, size_t length, uint64_t answer[2])
+{
+    uint32_t first = (uint32_t)FILL, count = (uint32_t)FILL;
+    uint32_t said = number(drawbevel_snack(&shim->session, connection, pdu, length, &first, &count));
+    answer[0] = first;
+    answer[1] = count;
+    return said;
+}
+
+EXPORT uint32_t shim_resend(const struct shim *shim, uint32_t connection, uint32_t stat_sn, uint8_t *out, size_t lent, uint64_t answer[1])
+{
+    uint32_t ticket = (uint32_t)FILL;
+    uint32_t said = number(drawbevel_resend(&shim->session, connection, stat_sn, out, lent, &ticket));
+    answer[0] = ticket;
+    return said;
+}
+
+EXPORT void shim_window(const struct shim *shim, uint64_t answer[2])
+{
+    uint32_t exp_cmd_sn = (uint32_t)FILL, max_cmd_sn = (uint32_t)FILL;
+    drawbevel_window(&shim->session, &exp_cmd_sn, &max_cmd_sn);
+    answer[0] = exp_cmd_sn;
+    answer[1] = max_cmd_sn;
+}
+
+EXPORT uint32_t shim_next_stat_sn(const struct shim *shim, uint32_t connection, uint64_t answer[1])
+{
+    uint32_t stat_sn = (uint32_t)FILL;
+    uint32_t said = number(drawbevel_next_stat_sn(&shim->session, connection, &stat_sn));
+    answer[0] = stat_sn;
+    return said;
+}
+
+EXPORT uint32_t shim_holder(const struct shim *shim, uint32_t cmd_sn, uint64_t answer[2])
+{
+    struct drawbevel_held held;
+    uint32_t said;
+    memset(&held, FILL, sizeof held);
+    said = number(drawbevel_holder(&shim->session, cmd_sn, &held));
+    answer[0] = held.ticket;
+    answer[1] = origin_of(held.origin);
+    return said;
+}
+
+/* ---- a login */
+
+EXPORT void shim_login_fresh(struct shim *shim)
+{
+    memset(&shim->login, FILL, sizeof shim->login);
+    drawbevel_login_fresh(&shim->login);
+}
+
+EXPORT uint32_t shim_login(struct shim *shim, const uint8_t *pdu, size_t length, uint16_t live, uint16_t new_handle, const uint8_t *name,
+                           size_t name_length, uint8_t *gather, size_t gather_lent, uint8_t *text, size_t text_lent, uint64_t answer[7])
+{
+    struct drawbevel_login_answer a;
+    uint32_t said;
+    memset(&a, FILL, sizeof a);
+    said = number(drawbevel_login_receive(&shim->login, pdu, length, live, new_handle, name, name_length, gather, gather_lent, text, text_lent, &a));
+    answer[0] = a.status;
+    answer[1] = a.stage;
+    answer[2] = a.transit;
+    answer[3] = a.csg;
+    answer[4] = a.nsg;
+    answer[5] = a.tsih;
+    answer[6] = a.length;
+    return said;
+}
+
+EXPORT void shim_values(const struct shim *shim, uint64_t answer[12])
+{
+    const uint32_t *values = shim->login.values;
+    answer[0] = values[DRAWBEVEL_MAX_CONNECTIONS];
+    answer[1] = values[DRAWBEVEL_MAX_OUTSTANDING_R2T];
+    answer[2] = values[DRAWBEVEL_INITIAL_R2T];
+    answer[3] = values[DRAWBEVEL_DATA_PDU_IN_ORDER];
+    answer[4] = values[DRAWBEVEL_DATA_SEQUENCE_IN_ORDER];
+    answer[5] = values[DRAWBEVEL_IMMEDIATE_DATA];
+    answer[6] = values[DRAWBEVEL_MAX_RECV_DATA_SEGMENT_LENGTH];
+    answer[7] = values[DRAWBEVEL_MAX_BURST_LENGTH];
+    answer[8] = values[DRAWBEVEL_FIRST_BURST_LENGTH];
+    answer[9] = values[DRAWBEVEL_DEFAULT_TIME2WAIT];
+    answer[10] = values[DRAWBEVEL_DEFAULT_TIME2RETAIN];
+    answer[11] = values[DRAWBEVEL_ERROR_RECOVERY_LEVEL];
+}
+
+/* The Login Response to a good Login Request, answered with this stage, T, CSG, NSG, TSIH and length; opcode 0 where it can't be read. */
+EXPORT void shim_login_accepted(const uint8_t *input, size_t length, const uint64_t answered[6], uint64_t answer[10])
+{
+    struct drawbevel_login_answer a;
+    struct drawbevel_pdu request;
+    struct drawbevel_response r;
+    answer[0] = 0;
+    if (drawbevel_read(input, length, &request) != DRAWBEVEL_OK)
+        return;
+    a.status = 0;
+    a.stage = (uint8_t)answered[0];
+    a.transit = (uint8_t)answered[1];
+    a.csg = (uint8_t)answered[2];
+    a.nsg = (uint8_t)answered[3];
+    a.tsih = (uint16_t)answered[4];
+    a.length = (size_t)answered[5];
+    r = drawbevel_login_accepted(&request, &a);
+    login_response_fields(&r, answer);
+}
+
+/* The Login Response that refuses these bytes, which may be no PDU. */
+EXPORT void shim_login_refused(const uint8_t *input, size_t length, uint16_t status, uint64_t answer[10])
+{
+    struct drawbevel_pdu request;
+    struct drawbevel_response r;
+    memset(&request, FILL, sizeof request);
+    if (drawbevel_read(input, length, &request) != DRAWBEVEL_OK)
+        memset(&request, 0, sizeof request);
+    r = drawbevel_login_refused(&request, status);
+    login_response_fields(&r, answer);
+}
