@@ -1,7 +1,9 @@
-//! `include/drawbevel.h` under test: its inline functions, structs and constants, in C and in C++, as an engine against the model.
+//! `include/drawbevel.h` under test: its inline functions, structs and constants, in C and in C++, as an engine against the model; and faulty
+//! headers, each of which must be found.
 
 mod checks;
 mod declared;
+mod faults;
 mod shim;
 
 use difftest::{Area, Report, run, seed};
@@ -9,6 +11,8 @@ use model::Model;
 use shim::Library;
 use std::fs;
 use std::path::{Path, PathBuf};
+use std::sync::Mutex;
+use std::sync::atomic::{AtomicUsize, Ordering};
 use testkit::c::{Language, compile, include};
 use testkit::traps;
 
@@ -120,4 +124,28 @@ fn cpp_names_every_struct() {
     for compiler in Language::Cpp.compilers() {
         compile(compiler, Language::Cpp, &include(), &source, &arguments);
     }
+}
+
+#[test]
+fn every_faulty_header_is_found() {
+    let header = header();
+    let right = scratch("right");
+    assert_eq!(faults::finding(&header, &right), None);
+    let (next, missed) = (AtomicUsize::new(0), Mutex::new(Vec::new()));
+    let work = || {
+        while let Some(fault) = faults::ALL.get(next.fetch_add(1, Ordering::Relaxed)) {
+            let name = fault.0;
+            let folder = scratch(&format!("fault {name}"));
+            match faults::finding(&faults::faulty(&header, *fault), &folder) {
+                Some(found) => eprintln!("{name}: {found}"),
+                None => missed.lock().unwrap().push(name),
+            }
+        }
+    };
+    std::thread::scope(|scope| {
+        scope.spawn(work);
+        scope.spawn(work);
+    });
+    let missed = missed.into_inner().unwrap();
+    assert!(missed.is_empty(), "not found: {missed:?}");
 }
