@@ -11,6 +11,8 @@ pub type Check = fn(&Library);
 /// Every check, by name.
 pub const ALL: &[(&str, Check)] = &[
     ("sizes", sizes),
+    ("keys are numbered as in the table", keys),
+    ("fresh sets every member", fresh),
     ("refusals are the numbers 1 to 12", refusals),
     ("names of answers", names),
     ("Login Response that accepts", accepted),
@@ -21,6 +23,15 @@ pub const ALL: &[(&str, Check)] = &[
 
 fn sizes(library: &Library) {
     assert_eq!(library.sizes(), [48, 9260, 8192, 4, 4]);
+}
+
+/// Four of them are 1 whatever is offered, so that no login would show one in another's place.
+fn keys(library: &Library) {
+    assert_eq!(library.keys(), [0, 1, 2, 3, 4, 5, 6, 7, 8, 9, 10, 11]);
+}
+
+fn fresh(library: &Library) {
+    assert!(library.begins_whole());
 }
 
 fn refusals(library: &Library) {

@@ -145,6 +145,18 @@ pub const ALL: &[Fault] = &[
         "pdu, length, new_handle, live, target_name, name_length, gather,",
     ),
     (
+        "gather area and text output swapped",
+        "gather, gather_lent, text,
+                         text_lent, a);",
+        "text, text_lent, gather,
+                         gather_lent, a);",
+    ),
+    (
+        "a wrong array for a fresh session's headers",
+        "session->headers, session->tickets, session->statuses,",
+        "session->statuses, session->tickets, session->statuses,",
+    ),
+    (
         "a wrong array for a holder's tickets",
         "session->tickets, number, a);",
         "session->status_tickets, number, a);",
@@ -185,6 +197,13 @@ pub const ALL: &[Fault] = &[
     DRAWBEVEL_DEFAULT_TIME2RETAIN,",
         "DRAWBEVEL_DEFAULT_TIME2RETAIN,
     DRAWBEVEL_DEFAULT_TIME2WAIT,",
+    ),
+    (
+        "two keys that are always 1 swapped",
+        "DRAWBEVEL_MAX_OUTSTANDING_R2T,
+    DRAWBEVEL_INITIAL_R2T,",
+        "DRAWBEVEL_INITIAL_R2T,
+    DRAWBEVEL_MAX_OUTSTANDING_R2T,",
     ),
     (
         "two flags among the keys swapped",

@@ -9,6 +9,7 @@ mod shim;
 use difftest::{Area, Report, run, seed};
 use model::Model;
 use shim::Library;
+use std::collections::BTreeSet;
 use std::fs;
 use std::path::{Path, PathBuf};
 use std::sync::Mutex;
@@ -72,38 +73,33 @@ fn the_shim_uses_all_that_the_header_declares() {
     assert_eq!(used.iter().find(past), None, "shim.c goes past the header");
 }
 
-/// The fields of a struct that is a member of a PDU's union are named with that member.
+/// The shim names a field with the member of a PDU's union that has it, or with a variable that is called as its struct is.
 #[test]
 fn the_shim_uses_every_field() {
     let structs = declared::structs(&header());
     let used = declared::members(include_str!("shim.c"));
+    let is_struct = |kind: &str| kind.starts_with("drawbevel_");
     let of_unions: Vec<_> = structs
         .iter()
-        .filter(|each| each.name == "drawbevel_pdu" || each.name == "drawbevel_response")
         .flat_map(|each| &each.fields)
+        .filter(|(kind, _)| is_struct(kind))
         .collect();
-    let mut seen = Vec::new();
+    let mut wanted = BTreeSet::new();
     for each in &structs {
         let member = of_unions.iter().find(|(kind, _)| *kind == each.name);
-        let of = member.map(|(_, name)| name);
-        for (_, field) in &each.fields {
-            // The core's own: nobody else reads or sets them.
-            let is_inner = each.name == "drawbevel_session"
-                || each.name == "drawbevel_login" && field != "values";
-            let is_used = |(a, b): &(String, String)| b == field && of.is_none_or(|of| a == of);
-            let is_used = used.iter().any(is_used);
-            assert!(is_inner || is_used, "not in shim.c: {}, {field}", each.name);
-            seen.push(format!("{}, {field}", each.name));
-        }
+        let owner = match member {
+            Some((_, member)) => member,
+            None => each.name.trim_start_matches("drawbevel_"),
+        };
+        let own = each.fields.iter().filter(|(kind, _)| !is_struct(kind));
+        wanted.extend(own.map(|(_, field)| (owner.to_owned(), field.to_owned())));
     }
-    for known in [
-        "drawbevel_scsi_command, cdb",
-        "drawbevel_login_request, cid",
-        "drawbevel_response, reject",
-        "drawbevel_login_answer, length",
-    ] {
-        assert!(seen.iter().any(|each| each == known), "{known} wasn't seen");
+    for (owner, field) in [("login", "cid"), ("reject", "reason"), ("held", "ticket")] {
+        let known = (owner.to_owned(), field.to_owned());
+        assert!(wanted.contains(&known), "{known:?} wasn't seen");
     }
+    let missing: Vec<_> = wanted.difference(&used).collect();
+    assert!(missing.is_empty(), "not in shim.c: {missing:?}");
 }
 
 /// In C++ a struct is named without `struct`, unless a function of the same name hides it.

@@ -19,6 +19,22 @@ enum {
 /* What a struct is filled with before a call: a field that isn't set shows. */
 static const int FILL = 0xa5;
 
+/* The keys in the order of the rules' table. */
+static const enum drawbevel_key KEYS[12] = {
+    DRAWBEVEL_MAX_CONNECTIONS,
+    DRAWBEVEL_MAX_OUTSTANDING_R2T,
+    DRAWBEVEL_INITIAL_R2T,
+    DRAWBEVEL_DATA_PDU_IN_ORDER,
+    DRAWBEVEL_DATA_SEQUENCE_IN_ORDER,
+    DRAWBEVEL_IMMEDIATE_DATA,
+    DRAWBEVEL_MAX_RECV_DATA_SEGMENT_LENGTH,
+    DRAWBEVEL_MAX_BURST_LENGTH,
+    DRAWBEVEL_FIRST_BURST_LENGTH,
+    DRAWBEVEL_DEFAULT_TIME2WAIT,
+    DRAWBEVEL_DEFAULT_TIME2RETAIN,
+    DRAWBEVEL_ERROR_RECOVERY_LEVEL
+};
+
 struct shim {
     struct drawbevel_session session;
     struct drawbevel_login login;
@@ -63,75 +79,83 @@ static uint64_t origin_of(uint32_t origin)
 /* The response of an opcode and its fields, in the order of RFC 7143's pictures; another opcode becomes a kind as it stands. */
 static struct drawbevel_response response_of(uint64_t opcode, const uint64_t fields[9])
 {
-    struct drawbevel_response r;
-    memset(&r, FILL, sizeof r);
+    struct drawbevel_response response;
+    memset(&response, FILL, sizeof response);
     switch (opcode) {
     case 0x20:
-        r.kind = DRAWBEVEL_NOP_IN;
-        r.of.nop_in.data_segment_length = fields[0];
-        r.of.nop_in.lun = fields[1];
-        r.of.nop_in.initiator_task_tag = fields[2];
-        r.of.nop_in.target_transfer_tag = fields[3];
+        response.kind = DRAWBEVEL_NOP_IN;
+        response.of.nop_in.data_segment_length = fields[0];
+        response.of.nop_in.lun = fields[1];
+        response.of.nop_in.initiator_task_tag = fields[2];
+        response.of.nop_in.target_transfer_tag = fields[3];
         break;
     case 0x21:
-        r.kind = DRAWBEVEL_SCSI_RESPONSE;
-        r.of.scsi_response.overflow = fields[0];
-        r.of.scsi_response.underflow = fields[1];
-        r.of.scsi_response.response = fields[2];
-        r.of.scsi_response.status = fields[3];
-        r.of.scsi_response.data_segment_length = fields[4];
-        r.of.scsi_response.initiator_task_tag = fields[5];
-        r.of.scsi_response.snack_tag = fields[6];
-        r.of.scsi_response.residual_count = fields[7];
+        response.kind = DRAWBEVEL_SCSI_RESPONSE;
+        response.of.scsi_response.overflow = fields[0];
+        response.of.scsi_response.underflow = fields[1];
+        response.of.scsi_response.response = fields[2];
+        response.of.scsi_response.status = fields[3];
+        response.of.scsi_response.data_segment_length = fields[4];
+        response.of.scsi_response.initiator_task_tag = fields[5];
+        response.of.scsi_response.snack_tag = fields[6];
+        response.of.scsi_response.residual_count = fields[7];
         break;
     case 0x22:
-        r.kind = DRAWBEVEL_TASK_MANAGEMENT_RESPONSE;
-        r.of.task_management_response.response = fields[0];
-        r.of.task_management_response.initiator_task_tag = fields[1];
+        response.kind = DRAWBEVEL_TASK_MANAGEMENT_RESPONSE;
+        response.of.task_management_response.response = fields[0];
+        response.of.task_management_response.initiator_task_tag = fields[1];
         break;
     case 0x23:
-        r.kind = DRAWBEVEL_LOGIN_RESPONSE;
-        r.of.login_response.transit = fields[0];
-        r.of.login_response.csg = fields[1];
-        r.of.login_response.nsg = fields[2];
-        r.of.login_response.data_segment_length = fields[3];
-        r.of.login_response.isid = fields[4];
-        r.of.login_response.tsih = fields[5];
-        r.of.login_response.initiator_task_tag = fields[6];
-        r.of.login_response.status_class = fields[7];
-        r.of.login_response.status_detail = fields[8];
+        response.kind = DRAWBEVEL_LOGIN_RESPONSE;
+        response.of.login_response.transit = fields[0];
+        response.of.login_response.csg = fields[1];
+        response.of.login_response.nsg = fields[2];
+        response.of.login_response.data_segment_length = fields[3];
+        response.of.login_response.isid = fields[4];
+        response.of.login_response.tsih = fields[5];
+        response.of.login_response.initiator_task_tag = fields[6];
+        response.of.login_response.status_class = fields[7];
+        response.of.login_response.status_detail = fields[8];
         break;
     case 0x26:
-        r.kind = DRAWBEVEL_LOGOUT_RESPONSE;
-        r.of.logout_response.response = fields[0];
-        r.of.logout_response.initiator_task_tag = fields[1];
-        r.of.logout_response.time2wait = fields[2];
-        r.of.logout_response.time2retain = fields[3];
+        response.kind = DRAWBEVEL_LOGOUT_RESPONSE;
+        response.of.logout_response.response = fields[0];
+        response.of.logout_response.initiator_task_tag = fields[1];
+        response.of.logout_response.time2wait = fields[2];
+        response.of.logout_response.time2retain = fields[3];
         break;
     case 0x3f:
-        r.kind = DRAWBEVEL_REJECT;
-        r.of.reject.reason = fields[0];
+        response.kind = DRAWBEVEL_REJECT;
+        response.of.reject.reason = fields[0];
         break;
     default:
-        r.kind = opcode;
+        response.kind = opcode;
         break;
     }
-    return r;
+    return response;
 }
 
 /* A Login Response's opcode and fields; opcode 0 for a response of another kind. */
-static void login_response_fields(const struct drawbevel_response *r, uint64_t answer[10])
+static void login_response_fields(const struct drawbevel_response *response, uint64_t answer[10])
 {
-    answer[0] = r->kind == DRAWBEVEL_LOGIN_RESPONSE ? 0x23 : 0;
-    answer[1] = r->of.login_response.transit;
-    answer[2] = r->of.login_response.csg;
-    answer[3] = r->of.login_response.nsg;
-    answer[4] = r->of.login_response.data_segment_length;
-    answer[5] = r->of.login_response.isid;
-    answer[6] = r->of.login_response.tsih;
-    answer[7] = r->of.login_response.initiator_task_tag;
-    answer[8] = r->of.login_response.status_class;
-    answer[9] = r->of.login_response.status_detail;
+    answer[0] = response->kind == DRAWBEVEL_LOGIN_RESPONSE ? 0x23 : 0;
+    answer[1] = response->of.login_response.transit;
+    answer[2] = response->of.login_response.csg;
+    answer[3] = response->of.login_response.nsg;
+    answer[4] = response->of.login_response.data_segment_length;
+    answer[5] = response->of.login_response.isid;
+    answer[6] = response->of.login_response.tsih;
+    answer[7] = response->of.login_response.initiator_task_tag;
+    answer[8] = response->of.login_response.status_class;
+    answer[9] = response->of.login_response.status_detail;
+}
+
+/* A session and a login begun in memory full of a byte. */
+static void begin(struct shim *shim, int byte)
+{
+    memset(shim, byte, sizeof *shim);
+    drawbevel_fresh(&shim->session, 1, 1, 0);
+    drawbevel_login_fresh(&shim->login);
 }
 
 EXPORT struct shim *shim_make(void)
@@ -139,9 +163,7 @@ EXPORT struct shim *shim_make(void)
     struct shim *shim = (struct shim *)malloc(sizeof(struct shim));
     if (!shim)
         abort();
-    memset(shim, FILL, sizeof *shim);
-    drawbevel_fresh(&shim->session, 1, 1, 0);
-    drawbevel_login_fresh(&shim->login);
+    begin(shim, FILL);
     return shim;
 }
 
@@ -159,6 +181,30 @@ EXPORT void shim_sizes(uint64_t answer[5])
     answer[2] = DRAWBEVEL_TEXT_BYTES;
     answer[3] = DRAWBEVEL_CONNECTIONS;
     answer[4] = DRAWBEVEL_NO_ORIGIN;
+}
+
+EXPORT void shim_keys(uint64_t answer[12])
+{
+    int i;
+    for (i = 0; i < 12; i++)
+        answer[i] = KEYS[i];
+}
+
+/* Whether every member of a session and of a login is the same at their beginning, whatever its memory held before. */
+EXPORT uint32_t shim_begins_whole(void)
+{
+    struct shim a, b;
+    begin(&a, 0x5a);
+    begin(&b, 0xa5);
+    return memcmp(a.session.maps, b.session.maps, sizeof a.session.maps) == 0
+        && memcmp(a.session.numbers, b.session.numbers, sizeof a.session.numbers) == 0
+        && memcmp(a.session.tickets, b.session.tickets, sizeof a.session.tickets) == 0
+        && memcmp(a.session.status_tickets, b.session.status_tickets, sizeof a.session.status_tickets) == 0
+        && memcmp(a.session.headers, b.session.headers, sizeof a.session.headers) == 0
+        && memcmp(a.session.statuses, b.session.statuses, sizeof a.session.statuses) == 0
+        && memcmp(a.login.numbers, b.login.numbers, sizeof a.login.numbers) == 0
+        && memcmp(a.login.values, b.login.values, sizeof a.login.values) == 0
+        && memcmp(a.login.seen, b.login.seen, sizeof a.login.seen) == 0;
 }
 
 EXPORT uint32_t shim_is_refusal(uint32_t answer)
@@ -252,8 +298,8 @@ EXPORT uint32_t shim_read(const uint8_t *input, size_t length, uint64_t answer[1
 EXPORT uint32_t shim_write(uint8_t *out, size_t lent, uint64_t opcode, const uint64_t fields[9], uint32_t stat_sn, uint32_t exp_cmd_sn,
                            uint32_t max_cmd_sn)
 {
-    struct drawbevel_response r = response_of(opcode, fields);
-    return number(drawbevel_write(out, lent, &r, stat_sn, exp_cmd_sn, max_cmd_sn));
+    struct drawbevel_response response = response_of(opcode, fields);
+    return number(drawbevel_write(out, lent, &response, stat_sn, exp_cmd_sn, max_cmd_sn));
 }
 
 /* ---- a session */
@@ -298,9 +344,9 @@ EXPORT uint32_t shim_open(struct shim *shim, uint32_t connection, uint32_t stat_
 EXPORT uint32_t shim_send(struct shim *shim, uint32_t connection, uint32_t ticket, uint64_t opcode, const uint64_t fields[9], uint8_t *out,
                           size_t lent, uint64_t answer[1])
 {
-    struct drawbevel_response r = response_of(opcode, fields);
+    struct drawbevel_response response = response_of(opcode, fields);
     uint32_t stat_sn = (uint32_t)FILL;
-    uint32_t said = number(drawbevel_send(&shim->session, connection, ticket, &r, out, lent, &stat_sn));
+    uint32_t said = number(drawbevel_send(&shim->session, connection, ticket, &response, out, lent, &stat_sn));
     answer[0] = stat_sn;
     return said;
 }
@@ -368,65 +414,56 @@ EXPORT void shim_login_fresh(struct shim *shim)
 EXPORT uint32_t shim_login(struct shim *shim, const uint8_t *pdu, size_t length, uint16_t live, uint16_t new_handle, const uint8_t *name,
                            size_t name_length, uint8_t *gather, size_t gather_lent, uint8_t *text, size_t text_lent, uint64_t answer[7])
 {
-    struct drawbevel_login_answer a;
+    struct drawbevel_login_answer login_answer;
     uint32_t said;
-    memset(&a, FILL, sizeof a);
-    said = number(drawbevel_login_receive(&shim->login, pdu, length, live, new_handle, name, name_length, gather, gather_lent, text, text_lent, &a));
-    answer[0] = a.status;
-    answer[1] = a.stage;
-    answer[2] = a.transit;
-    answer[3] = a.csg;
-    answer[4] = a.nsg;
-    answer[5] = a.tsih;
-    answer[6] = a.length;
+    memset(&login_answer, FILL, sizeof login_answer);
+    said = number(drawbevel_login_receive(&shim->login, pdu, length, live, new_handle, name, name_length, gather, gather_lent, text, text_lent,
+                                          &login_answer));
+    answer[0] = login_answer.status;
+    answer[1] = login_answer.stage;
+    answer[2] = login_answer.transit;
+    answer[3] = login_answer.csg;
+    answer[4] = login_answer.nsg;
+    answer[5] = login_answer.tsih;
+    answer[6] = login_answer.length;
     return said;
 }
 
 EXPORT void shim_values(const struct shim *shim, uint64_t answer[12])
 {
-    const uint32_t *values = shim->login.values;
-    answer[0] = values[DRAWBEVEL_MAX_CONNECTIONS];
-    answer[1] = values[DRAWBEVEL_MAX_OUTSTANDING_R2T];
-    answer[2] = values[DRAWBEVEL_INITIAL_R2T];
-    answer[3] = values[DRAWBEVEL_DATA_PDU_IN_ORDER];
-    answer[4] = values[DRAWBEVEL_DATA_SEQUENCE_IN_ORDER];
-    answer[5] = values[DRAWBEVEL_IMMEDIATE_DATA];
-    answer[6] = values[DRAWBEVEL_MAX_RECV_DATA_SEGMENT_LENGTH];
-    answer[7] = values[DRAWBEVEL_MAX_BURST_LENGTH];
-    answer[8] = values[DRAWBEVEL_FIRST_BURST_LENGTH];
-    answer[9] = values[DRAWBEVEL_DEFAULT_TIME2WAIT];
-    answer[10] = values[DRAWBEVEL_DEFAULT_TIME2RETAIN];
-    answer[11] = values[DRAWBEVEL_ERROR_RECOVERY_LEVEL];
+    int i;
+    for (i = 0; i < 12; i++)
+        answer[i] = shim->login.values[KEYS[i]];
 }
 
 /* The Login Response to a good Login Request, answered with this stage, T, CSG, NSG, TSIH and length; opcode 0 where it can't be read. */
 EXPORT void shim_login_accepted(const uint8_t *input, size_t length, const uint64_t answered[6], uint64_t answer[10])
 {
-    struct drawbevel_login_answer a;
-    struct drawbevel_pdu request;
-    struct drawbevel_response r;
+    struct drawbevel_login_answer login_answer;
+    struct drawbevel_pdu pdu;
+    struct drawbevel_response response;
     answer[0] = 0;
-    if (drawbevel_read(input, length, &request) != DRAWBEVEL_OK)
+    if (drawbevel_read(input, length, &pdu) != DRAWBEVEL_OK)
         return;
-    a.status = 0;
-    a.stage = (uint8_t)answered[0];
-    a.transit = (uint8_t)answered[1];
-    a.csg = (uint8_t)answered[2];
-    a.nsg = (uint8_t)answered[3];
-    a.tsih = (uint16_t)answered[4];
-    a.length = (size_t)answered[5];
-    r = drawbevel_login_accepted(&request, &a);
-    login_response_fields(&r, answer);
+    login_answer.status = 0;
+    login_answer.stage = (uint8_t)answered[0];
+    login_answer.transit = (uint8_t)answered[1];
+    login_answer.csg = (uint8_t)answered[2];
+    login_answer.nsg = (uint8_t)answered[3];
+    login_answer.tsih = (uint16_t)answered[4];
+    login_answer.length = (size_t)answered[5];
+    response = drawbevel_login_accepted(&pdu, &login_answer);
+    login_response_fields(&response, answer);
 }
 
 /* The Login Response that refuses these bytes, which may be no PDU. */
 EXPORT void shim_login_refused(const uint8_t *input, size_t length, uint16_t status, uint64_t answer[10])
 {
-    struct drawbevel_pdu request;
-    struct drawbevel_response r;
-    memset(&request, FILL, sizeof request);
-    if (drawbevel_read(input, length, &request) != DRAWBEVEL_OK)
-        memset(&request, 0, sizeof request);
-    r = drawbevel_login_refused(&request, status);
-    login_response_fields(&r, answer);
+    struct drawbevel_pdu pdu;
+    struct drawbevel_response response;
+    memset(&pdu, FILL, sizeof pdu);
+    if (drawbevel_read(input, length, &pdu) != DRAWBEVEL_OK)
+        memset(&pdu, 0, sizeof pdu);
+    response = drawbevel_login_refused(&pdu, status);
+    login_response_fields(&response, answer);
 }

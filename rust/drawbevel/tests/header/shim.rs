@@ -50,6 +50,8 @@ functions! {
     make() -> *mut State;
     drop(*mut State);
     sizes(*mut [u64; 5]);
+    keys(*mut [u64; 12]);
+    begins_whole() -> u32;
     is_refusal(u32) -> u32;
     answer_name(u32) -> *const c_char;
     length(*const u8, usize, *mut [u64; 1]) -> u32;
@@ -134,6 +136,18 @@ impl Library {
         let mut answer = [0; 5];
         unsafe { (self.functions.sizes)(&mut answer) };
         answer
+    }
+
+    /// The keys' numbers, in the order of the rules' table.
+    pub fn keys(&self) -> [u64; 12] {
+        let mut answer = [0; 12];
+        unsafe { (self.functions.keys)(&mut answer) };
+        answer
+    }
+
+    /// Whether nothing of what a session's or a login's memory held is left at its beginning.
+    pub fn begins_whole(&self) -> bool {
+        unsafe { (self.functions.begins_whole)() != 0 }
     }
 
     pub fn is_refusal(&self, answer: u32) -> bool {
