@@ -41,7 +41,7 @@ pub fn identifiers(text: &str) -> BTreeSet<String> {
     words(&code(text)).into_iter().collect()
 }
 
-/// The members `MEMBER.FIELD` and `MEMBER->FIELD` that a C text names, the first by the second form too.
+/// The pairs of a struct or variable and its field that a C text names, by `.` or by `->`.
 pub fn members(text: &str) -> BTreeSet<(String, String)> {
     let words = words(&code(text).replace("->", "."));
     let triples = words.windows(3).filter(|w| w[1] == ".");
