@@ -5,7 +5,7 @@ use mathlib.Core.List.{List}
 use lib.Dec.{eqb}
 use Rattle.field.specs.Field.{pick}
 use Rattle.words.specs.Words.{word, fits, isSet}
-use Rattle.response_header.specs.Response.{tooLong, refusalIn}
+use Rattle.response_header.specs.Response.{tooLong}
 use Rattle.response_header.specs.declared.NopIn.{NopIn}
 use Rattle.response_header.specs.declared.ScsiResponse.{ScsiResponse}
 use Rattle.response_header.specs.declared.TaskManagementResponse.{TaskManagementResponse}
@@ -120,8 +120,3 @@ responseOf w =
 -- so is a kind that none has.
 unfoldable pub unfitRefusal : (max stated : ℕ) → ℕ
 unfitRefusal max d = pick (tooLong max d) 5 3
-
--- Writing's refusal of words, 0 where they can be written: "5, then 3".
-abbrev pub wordsRefusal : ℕ → FromWords → ℕ
-wordsRefusal max (F.Response r) = refusalIn max r
-wordsRefusal max (F.Unfit d) = unfitRefusal max d
