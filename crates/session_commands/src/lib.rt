@@ -129,7 +129,7 @@ pub fn offer(
                 window: w,
             },
             Offered::Numbered(n) => {
-                let step = window::offer(w, n, ticket, conn, pdu, headers, tickets);
+                let step = window_offer::offer(w, n, ticket, conn, pdu, headers, tickets);
                 let answer = step.answer;
                 let window = step.window;
                 OfferStep {
@@ -160,7 +160,7 @@ pub fn take(
             window: w,
         };
     }
-    let step = window::take(w, headers, tickets, out);
+    let step = window_take::take(w, headers, tickets, out);
     let answer = step.answer;
     let window = step.window;
     TakeStep {

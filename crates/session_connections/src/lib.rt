@@ -93,7 +93,7 @@ pub fn logout(s: Session, conn: u32, reason: u8) -> LogoutStep
                     window: w,
                 };
             }
-            let step = window::logout(w, conn, reason);
+            let step = window_logout::logout(w, conn, reason);
             let window = step.window;
             LogoutStep {
                 answer: LogoutAnswer::LoggedOut {

@@ -1,28 +1,27 @@
 -- Laws of the maps of a list of places. By induction on the place, with n / 2 and n % 2 for the bits that are left and the
 -- lowest.
-use Prim.Native.Nat.{ℕ, zero, suc, _+_, _/_, _%_, _^_, _≤_, _<_, max}
-use mathlib.Core.Path.{_≡_, refl, sym, ap, ap₂, _∙_}
+use Prim.Native.Nat.{ℕ, zero, suc, _/_, _%_, _^_, _≤_, _<_, max}
+use mathlib.Core.Path.{_≡_, refl, sym, ap, _∙_}
 use mathlib.Core.List.{List, [], _∷_, _++_}
-use native.Mathlib.Nat.{pow-suc, max-zero, zero-add}
+use native.Mathlib.Nat.{max-zero}
 use native.Mathlib.Omega.{arith}
 use native.Mathlib.Decide.{ℕ-discrete}
 use lib.Bits.{bitOr}
-use lib.Count.{ones, ones-step, ones-ones}
 use lib.ListN.{length, getD, set, drop, replicate}
 use lib.Seq.{getD-set-same, getD-set-other}
 use Rattle.place_map.specs.Bit.{bitAt, withBit, Gapless}
 use Rattle.place_map.proofs.Bits.{bit-zero, bit-suc, bit-lt, bit-none, bit-or, bit-same, bit-other}
-use Rattle.window.specs.Book.{Place, empty, holds, gapless, sumOf}
+use Rattle.window.specs.Book.{Place, empty, holds, gapless}
 use Rattle.window.specs.Agree.{Maps, heldBit}
 
 -- ---- maps
 
 module _ (f : Place → ℕ) where
-  maps-tail : (n : ℕ) (p : Place) (l : List Place) → Maps n f (p ∷ l) → Maps (n / 2) f l
+  pub maps-tail : (n : ℕ) (p : Place) (l : List Place) → Maps n f (p ∷ l) → Maps (n / 2) f l
   unfolding Maps
   maps-tail n p l h d = sym (bit-suc n d) ∙ h (suc d)
 
-  maps-head : (n : ℕ) (p : Place) (l : List Place) → Maps n f (p ∷ l) → n % 2 ≡ f p
+  pub maps-head : (n : ℕ) (p : Place) (l : List Place) → Maps n f (p ∷ l) → n % 2 ≡ f p
   unfolding Maps
   maps-head n p l h = sym (bit-zero n) ∙ h 0
 
@@ -83,23 +82,3 @@ gapless-is (holds p ∷ l) n (suc g) m f s e =
 
 pub counts : (l : List Place) (n g : ℕ) → length l ≡ 64 → Maps n heldBit l → Gapless n g → g ≡ gapless l
 counts l n g e m c = gapless-is l n g m (omega (arith, c .fits)) (c .set-below) (λ k. c .clear-at (omega arith))
-
--- ---- counts of set bits
-
-pub ones-count : (f : Place → ℕ) (l : List Place) (n : ℕ) → Maps n f l → n < 2 ^ length l → ones n ≡ sumOf f l
-unfolding sumOf
-ones-count f [] n m h = ap ones (omega arith) ∙ ones-ones 0
-ones-count f (p ∷ l) n m h =
-    ones-step n ∙ ap₂ (λ (x y : ℕ). x + y) (maps-head f n p l m) (ones-count f l (n / 2) (maps-tail f n p l m) (omega (arith, pow-suc 2 (length l))))
-
--- of the bits from g on
-pub ones-from : (f : Place → ℕ) (l : List Place) (g n : ℕ) → ((d : ℕ) → d < g → bitAt n d ≡ 0) → ((d : ℕ) → g ≤ d → bitAt n d ≡ f (getD l d empty))
-    → n < 2 ^ length l → ones n ≡ sumOf f (drop g l)
-unfolding sumOf Maps
-ones-from f l zero n z m h = ones-count f l n (λ d. m d (omega arith)) h
-ones-from f [] (suc g) n z m h = ap ones (omega arith) ∙ ones-ones 0
-ones-from f (p ∷ l) (suc g) n z m h =
-    let low : n % 2 ≡ 0 = sym (bit-zero n) ∙ z 0 (omega arith) in
-    ones-step n ∙ ap (λ (x : ℕ). x + ones (n / 2)) low ∙ zero-add (ones (n / 2))
-    ∙ ones-from f l g (n / 2) (λ d k. sym (bit-suc n d) ∙ z (suc d) (omega arith)) (λ d k. sym (bit-suc n d) ∙ m (suc d) (omega arith))
-    (omega (arith, pow-suc 2 (length l)))

@@ -1,4 +1,4 @@
--- Laws of the window: the bits of its maps, and offer, take and logout against the book.
+-- Laws of the window: the bits of its maps, the slots of its places, what its steps share, and the places after a logout.
 pub mod Bits
 pub mod PlaceSlot
 pub mod Steps

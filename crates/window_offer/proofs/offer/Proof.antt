@@ -1,4 +1,4 @@
--- `window::offer` meets its contract.
+-- `window_offer::offer` meets its contract.
 use Prim.Native.Nat.{ℕ, _%_, _<_, _+_, _*_}
 use mathlib.Core.Path.{_≡_, refl, sym, _∙_, ap}
 use native.Mathlib.Omega.{arith}
@@ -6,15 +6,16 @@ use lib.ListN as ListN
 use lib.ListN.{getD}
 use lib.Seq.{length-take-le, take-take, paste}
 use mathlib.Core.List.{List, _++_}
 use Rattle.window.specs.PlaceSlot.{slotOf}
 use Rattle.place_map.specs.Bit.{bitAt}
 use Rattle.place_map.proofs.Bits.{bit-lt}
 use Rattle.window.specs.Book.{empty}
 use Rattle.window.specs.Agree.{commands, Puts}
-use Rattle.window.proofs.Steps.{met, ahead-is, offer-at, distance-is, step-passed, step-beyond, step-duplicate, step-kept, place-bit, held-none, keep-agrees}
+use Rattle.window.proofs.Steps.{met, held-none}
+use Rattle.window_offer.proofs.Steps.{ahead-is, offer-at, distance-is, step-passed, step-beyond, step-duplicate, step-kept, place-bit, keep-agrees}
 use borrow.Author.Needs.{needs}
-use Rattle.window.proofs.offer.Statement.{statement}
-use Rattle.window.proofs.offer.Tie as tie
+use Rattle.window_offer.proofs.offer.Statement.{statement}
+use Rattle.window_offer.proofs.offer.Tie as tie
 
 paste-front : (d s : List ℕ) (at : ℕ) → paste d at s 48 ≡ paste d at (ListN.take 48 s) 48
 paste-front d s at = ap (λ (r : List ℕ). ListN.take at d ++ r ++ ListN.drop (at + 48) d) (sym (take-take 48 48 s (omega arith)))

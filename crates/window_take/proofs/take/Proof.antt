@@ -1,4 +1,4 @@
--- `window::take` meets its contract: the first bits of the maps say which of the three answers it is.
+-- `window_take::take` meets its contract: the first bits of the maps say which of the three answers it is.
 use Prim.Native.Nat.{_%_, _*_, _≤_}
 use mathlib.Core.Path.{_≡_, refl}
 use mathlib.Core.List.{_++_}
@@ -6,13 +6,14 @@ use native.Mathlib.Omega.{arith}
 use lib.ListN.{length, drop, length-drop}
 use lib.Seq.{length-paste, drop-paste}
 use Rattle.store.specs.Slot.{inSlot}
 use Rattle.window.specs.Book.{take, nothing, handedOn}
 use Rattle.window.specs.PlaceSlot.{slotOf}
 use Rattle.window.specs.Agree.{commands}
-use Rattle.window.proofs.Steps.{met, take-nothing, take-void, take-command}
+use Rattle.window.proofs.Steps.{met}
+use Rattle.window_take.proofs.Steps.{take-nothing, take-void, take-command}
 use borrow.Author.Needs.{needs}
-use Rattle.window.proofs.take.Statement.{statement}
-use Rattle.window.proofs.take.Tie as tie
+use Rattle.window_take.proofs.take.Statement.{statement}
+use Rattle.window_take.proofs.take.Tie as tie
 
 returns : tie.Need-returns
 returns c =

@@ -1,16 +1,16 @@
--- `window::first_origin` meets its contract: the first connection whose lowest bit is set, since a place has one origin at most.
+-- `window_take::first_origin` meets its contract: the first connection whose lowest bit is set, since a place has one origin at most.
 use Prim.Native.Nat.{ℕ, zero, suc, _%_}
 use mathlib.Core.Path.{_≡_, sym, _∙_}
 use mathlib.Core.List.{List}
 use native.Mathlib.Omega.{arith}
 use lib.ListN.{length, getD, List·getD-eq-default}
 use Rattle.window.specs.Book.{Book, Place, firstPlace}
 use Rattle.window.specs.Agree.{Maps, originBit}
 use Rattle.place_map.proofs.Bits.{bit-zero}
-use Rattle.window.proofs.Steps.{origin-connection, origin-none}
+use Rattle.window_take.proofs.Steps.{origin-connection, origin-none}
 use borrow.Author.Needs.{needs}
-use Rattle.window.proofs.first_origin.Statement.{statement}
-use Rattle.window.proofs.first_origin.Tie as tie
+use Rattle.window_take.proofs.first_origin.Statement.{statement}
+use Rattle.window_take.proofs.first_origin.Tie as tie
 
 low : (n : ℕ) (f : Place → ℕ) (b : Book) → Maps n f (b .held) → (k : ℕ) → n % 2 ≡ k → f (firstPlace b) ≡ k
 unfolding Maps firstPlace

@@ -1,13 +1,13 @@
--- `window::handed_on` meets its contract: each map is halved, since R is one more.
+-- `window_take::handed_on` meets its contract: each map is halved, since R is one more.
 use Prim.Native.Nat.{ℕ, zero, suc, _/_}
 use mathlib.Core.Path.{_≡_, refl}
 use mathlib.Core.List.{List, [], _∷_}
 use native.Mathlib.Omega.{arith}
 use lib.ListN.{length, getD, List·getD-eq-default}
-use Rattle.window.proofs.Steps.{shift-agrees}
+use Rattle.window_take.proofs.Steps.{shift-agrees}
 use borrow.Author.Needs.{needs}
-use Rattle.window.proofs.handed_on.Statement.{statement}
-use Rattle.window.proofs.handed_on.Tie as tie
+use Rattle.window_take.proofs.handed_on.Statement.{statement}
+use Rattle.window_take.proofs.handed_on.Tie as tie
 
 halves : (l : List ℕ) → length l ≡ 4 → (k : ℕ) → getD (getD l 0 0 / 2 ∷ getD l 1 0 / 2 ∷ getD l 2 0 / 2 ∷ getD l 3 0 / 2 ∷ []) k 0 ≡ getD l k 0 / 2
 halves l e zero = refl

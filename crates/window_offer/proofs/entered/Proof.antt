@@ -1,12 +1,12 @@
--- `window::entered` meets its contract.
+-- `window_offer::entered` meets its contract.
 use Prim.Native.Nat.{ℕ}
 use mathlib.Core.Path.{refl, ap, _∙_}
 use lib.Bits.{bitOr}
 use lib.ListN.{getD, set}
 use borrow.Author.Needs.{needs}
 use Rattle.place_map.specs.Bit.{withBit}
-use Rattle.window.proofs.entered.Statement.{statement}
-use Rattle.window.proofs.entered.Tie as tie
+use Rattle.window_offer.proofs.entered.Statement.{statement}
+use Rattle.window_offer.proofs.entered.Tie as tie
 
 returns : tie.Need-returns
 unfolding withBit

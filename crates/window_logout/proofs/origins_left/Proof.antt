@@ -1,8 +1,8 @@
--- `window::origins_left` meets its contract.
+-- `window_logout::origins_left` meets its contract.
 use borrow.Author.Needs.{needs}
 use borrow.Author.Tests.{eq-eqb, ne-eqb}
-use Rattle.window.proofs.origins_left.Statement.{statement}
-use Rattle.window.proofs.origins_left.Tie as tie
+use Rattle.window_logout.proofs.origins_left.Statement.{statement}
+use Rattle.window_logout.proofs.origins_left.Tie as tie
 
 returns : tie.Need-returns
 returns c = rw (eq-eqb _ _ (c .before .if1 .taken)) (c .without-origin .ensures)

@@ -1,8 +1,8 @@
--- `window::newly_voided` meets its contract.
+-- `window_logout::newly_voided` meets its contract.
 use borrow.Author.Tests.{eq-eqb, ne-eqb}
 use Rattle.place_map.specs.Bit.{without}
-use Rattle.window.proofs.newly_voided.Statement.{statement}
-use Rattle.window.proofs.newly_voided.Tie as tie
+use Rattle.window_logout.proofs.newly_voided.Statement.{statement}
+use Rattle.window_logout.proofs.newly_voided.Tie as tie
 
 returns : tie.Need-returns
 returns c = rw (eq-eqb _ _ (c .if1 .taken))

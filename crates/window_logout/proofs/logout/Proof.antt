@@ -1,15 +1,15 @@
--- `window::logout` meets its contract: with the maps that the helpers ensure, Left has the counts and the agreement.
+-- `window_logout::logout` meets its contract: with the maps that the helpers ensure, Effect has the counts and the agreement.
 use Prim.Native.Nat.{_-_, _^_, _≤_, _<_}
 use mathlib.Core.Path.{_≡_, refl}
 use native.Mathlib.Omega.{arith}
 use borrow.Author.Needs.{needs}
 use Rattle.place_map.specs.Bit.{without}
 use Rattle.window.specs.Book.{logout}
 use Rattle.window.proofs.Steps.{met, all-places}
 use Rattle.window.proofs.Bits.{counts}
-use Rattle.window.proofs.Left.{logout-step, left-agrees, concerned-bit, origins-in, origins-out, origins-length}
-use Rattle.window.proofs.logout.Statement.{statement}
-use Rattle.window.proofs.logout.Tie as tie
+use Rattle.window_logout.proofs.Effect.{logout-step, left-agrees, concerned-bit, origins-in, origins-out, origins-length}
+use Rattle.window_logout.proofs.logout.Statement.{statement}
+use Rattle.window_logout.proofs.logout.Tie as tie
 
 returns : tie.Need-returns
 unfolding without

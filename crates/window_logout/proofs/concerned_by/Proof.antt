@@ -1,8 +1,8 @@
--- `window::concerned_by` meets its contract.
+-- `window_logout::concerned_by` meets its contract.
 use borrow.Author.Needs.{needs}
 use borrow.Author.Tests.{eq-eqb, ne-eqb}
-use Rattle.window.proofs.concerned_by.Statement.{statement}
-use Rattle.window.proofs.concerned_by.Tie as tie
+use Rattle.window_logout.proofs.concerned_by.Statement.{statement}
+use Rattle.window_logout.proofs.concerned_by.Tie as tie
 
 returns : tie.Need-returns
 returns c = rw (eq-eqb _ _ (c .if1 .taken))

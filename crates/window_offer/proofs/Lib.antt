@@ -1,0 +1,2 @@
+-- Laws of an offer.
+pub mod Steps

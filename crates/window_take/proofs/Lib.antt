@@ -1,0 +1,2 @@
+-- Laws of a take.
+pub mod Steps
