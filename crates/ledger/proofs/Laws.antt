@@ -22,9 +22,10 @@ use Rattle.store.specs.Slot.{inSlot}
 use Rattle.store.proofs.Slots.{slot-same, slot-other}
 use Rattle.ledger.specs.declared.Ledger.{Ledger}
 use Rattle.ledger.specs.declared.Renewal.{Renewal}
-use Rattle.ledger.specs.Book.{Status, LedgerBook, oldest, place, isStatus, isFull, refused, notStored, stored, sending, headerFor, sendBytes, sent, released, notHeld, run, runAt, runOf, renewed, Found, missing, found, lookup, statusOf}
+use Rattle.ledger.specs.Book.{Status, LedgerBook, oldest, place, isStatus, isFull, refused, notStored, stored, sending, headerFor, sendBytes, sent, released, run, runAt, runOf, renewed, Found, missing, found, lookup, statusOf}
 use Rattle.ledger.specs.declared.Sent.the-variants as S
-use Rattle.ledger.specs.Answer.{resent, running}
+use Rattle.ledger.specs.declared.Run.the-variants as R
+use Rattle.ledger.specs.Answer.{resent, running, runAnswer}
 use Rattle.ledger.specs.Answer as Answers
 use Rattle.ledger.specs.Agree.{Statuses, statusesIn, SlotHas, Agrees, Puts, Stored, Sends, Showing, showing}
 
@@ -188,7 +189,7 @@ release-agrees c l r ss b e g le e2 e3 = record {
 -- ---- runs
 
 module _ (b : LedgerBook) (begin len k h : ℕ) (ek : k ≡ place b begin) (eh : h ≡ length (b .held)) (n : (eqb begin 0 && eqb len 0) ≡ false) where
-  pub run-far : h ≤ k → running notHeld ≡ running (runOf b begin len)
+  pub run-far : h ≤ k → runAnswer R.NotHeld ≡ running (runOf b begin len)
   unfolding runOf runAt
   run-far l = rw (n, ← ek, ← eh, le-ltb k h l)
 
@@ -200,7 +201,7 @@ module _ (b : LedgerBook) (begin len k h : ℕ) (ek : k ≡ place b begin) (eh :
   unfolding runOf runAt
   run-part l z m = rw (n, ← ek, ← eh, lt-ltb k h l, ne-eqb len 0 z, le-leb len (h - k) m)
 
-  pub run-long : k < h → (len ≡ 0 → ⊥) → h - k < len → running notHeld ≡ running (runOf b begin len)
+  pub run-long : k < h → (len ≡ 0 → ⊥) → h - k < len → runAnswer R.NotHeld ≡ running (runOf b begin len)
   unfolding runOf runAt
   run-long l z m = rw (n, ← ek, ← eh, lt-ltb k h l, ne-eqb len 0 z, lt-leb len (h - k) m)
 

@@ -74,7 +74,7 @@ pub fn snack(s: Session, conn: u32, pdu: &[u8]) -> SnackAnswer
             Asked::Run {
                 beg_run,
                 run_length,
-            } => match ledger::run_of(l, beg_run, run_length) {
+            } => match ledger_held::run_of(l, beg_run, run_length) {
                 Run::NotHeld => SnackAnswer::Refused(Refusal::Snack),
                 Run::Of { first, count } => SnackAnswer::Run {
                     first: first,

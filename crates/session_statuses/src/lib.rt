@@ -68,7 +68,7 @@ pub fn send(
             let e = window::exp_cmd_sn(w);
             let m = window::max_cmd_sn(w);
             let c = conn as usize;
-            match ledger::send(
+            match ledger_send::send(
                 l,
                 c,
                 ticket,
@@ -99,7 +99,7 @@ pub fn acknowledge(s: Session, conn: u32, exp_stat_sn: u32) -> AcknowledgeAnswer
     match reach(s, conn) {
         Reached::NoConn => AcknowledgeAnswer::Refused(Refusal::NoConn),
         Reached::Closed => AcknowledgeAnswer::Refused(Refusal::Closed),
-        Reached::Open(l) => match ledger::acknowledge(l, exp_stat_sn) {
+        Reached::Open(l) => match ledger_held::acknowledge(l, exp_stat_sn) {
             Acknowledged::Stale => AcknowledgeAnswer::Refused(Refusal::Stale),
             Acknowledged::Good { count, ledger } => AcknowledgeAnswer::Acknowledged {
                 count: count,
@@ -141,7 +141,7 @@ pub fn resend(
                 max_cmd_sn: window::max_cmd_sn(w),
             };
             let c = conn as usize;
-            match ledger::resend(l, c, stat_sn, renewal, statuses, status_tickets, out) {
+            match ledger_held::resend(l, c, stat_sn, renewal, statuses, status_tickets, out) {
                 Resent::NotHeld => ResendAnswer::Refused(Refusal::Snack),
                 Resent::Status(t) => ResendAnswer::Resent(t),
             }

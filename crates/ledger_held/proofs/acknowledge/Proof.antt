@@ -1,15 +1,15 @@
--- `ledger::acknowledge` meets its contract: it is good where the ExpStatSN is no further from the oldest than the count held.
+-- `ledger_held::acknowledge` meets its contract: it is good where the ExpStatSN is no further from the oldest than the count held.
 use Prim.Native.Nat.{ℕ, _-_, _<_, _≤_}
 use mathlib.Core.Path.{_≡_, refl, ap}
 use native.Mathlib.Omega.{arith}
 use borrow.Author.Tests.{le-leb, lt-leb}
 use lib.ListN.{length}
 use Rattle.ledger.specs.Book.{place, isGood}
 use Rattle.ledger.specs.Answer.{acknowledged, acknowledging}
 use Rattle.ledger.proofs.Laws.{release-agrees}
 use borrow.Author.Needs.{needs}
-use Rattle.ledger.proofs.acknowledge.Statement.{statement}
-use Rattle.ledger.proofs.acknowledge.Tie as tie
+use Rattle.ledger_held.proofs.acknowledge.Statement.{statement}
+use Rattle.ledger_held.proofs.acknowledge.Tie as tie
 
 returns : tie.Need-returns
 unfolding acknowledging isGood

@@ -1,4 +1,4 @@
--- `ledger::resend` meets its contract: what is held lies in the slot of its number.
+-- `ledger_held::resend` meets its contract: what is held lies in the slot of its number.
 use Prim.Native.Nat.{ℕ, _+_, _*_, _%_, _-_, _≤_}
 use mathlib.Core.Path.{_≡_, refl, _∙_}
 use mathlib.Core.List.{List, _++_}
@@ -6,12 +6,12 @@ use native.Mathlib.Omega.{arith}
 use lib.ListN.{drop, length, length-drop}
 use lib.Seq.{length-take-le}
 use Rattle.store.specs.Slot.{inSlot}
 use Rattle.ledger.specs.Book.{renewed}
 use Rattle.ledger.specs.Agree.{statusesIn}
 use Rattle.ledger.proofs.Laws.{renew-both, renew, length-renewed, headed-size, headed-rest, resend-missing, resend-found}
 use borrow.Author.Needs.{needs}
-use Rattle.ledger.proofs.resend.Statement.{statement}
-use Rattle.ledger.proofs.resend.Tie as tie
+use Rattle.ledger_held.proofs.resend.Statement.{statement}
+use Rattle.ledger_held.proofs.resend.Tie as tie
 
 size : (h : List ℕ) (j : ℕ) → j * 48 + 48 ≤ length h → length (inSlot h j) ≡ 48
 unfolding inSlot

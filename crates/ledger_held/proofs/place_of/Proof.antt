@@ -1,9 +1,9 @@
--- `ledger::place_of` meets its contract.
+-- `ledger_held::place_of` meets its contract.
 use native.Mathlib.Omega.{arith}
 use Rattle.ledger.proofs.Laws.{place-is}
 use borrow.Author.Needs.{needs}
-use Rattle.ledger.proofs.place_of.Statement.{statement}
-use Rattle.ledger.proofs.place_of.Tie as tie
+use Rattle.ledger_held.proofs.place_of.Statement.{statement}
+use Rattle.ledger_held.proofs.place_of.Tie as tie
 
 returns : tie.Need-returns
 returns c k ss b g =

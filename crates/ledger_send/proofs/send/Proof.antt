@@ -1,13 +1,13 @@
--- `ledger::send` meets its contract: one outcome of the book's for each way through the code.
+-- `ledger_send::send` meets its contract: one outcome of the book's for each way through the code.
 use Prim.Native.Nat.{ℕ, _<_, _≤_}
 use mathlib.Core.Path.{_≡_, sym, ap, _∙_, subst}
 use mathlib.Core.Bool.{Bool, true, false, not}
 use native.Mathlib.Omega.{arith}
 use borrow.Author.Needs.{needs}
 use lib.ListN.{length}
 use Rattle.ledger.specs.Book.{isStatus}
 use Rattle.ledger.specs.Agree.{statusesIn}
 use Rattle.ledger.proofs.Laws.{sending-refused, sending-unstored, sending-full, sending-stored, sends-refused, sends-unstored, sends-stored}
 use Rattle.response_header.specs.Response.{judgementNumber}
 use Rattle.response_fields.specs.WholeNumbers.{ownBytes}
 use Rattle.response_header.specs.declared.Numbers.{Numbers}
@@ -15,8 +15,8 @@ use Rattle.response_fields.proofs.Laid.{length-own, front}
 use Rattle.response_header.specs.declared.Judgement.{Judgement}
 use Rattle.response_header.specs.declared.Judgement.the-variants as J
 use Rattle.refusal.specs.declared.Refusal.the-variants as F
-use Rattle.ledger.proofs.send.Statement.{statement}
-use Rattle.ledger.proofs.send.Tie as tie
+use Rattle.ledger_send.proofs.send.Statement.{statement}
+use Rattle.ledger_send.proofs.send.Tie as tie
 
 -- a response that is judged to fit
 fits : (n : ℕ) (j : Judgement) → judgementNumber j ≡ n → j ≡ J.Fits → 0 ≡ n

@@ -1,13 +1,13 @@
--- `ledger::run_of` meets its contract: one outcome of the run for each way through the code.
+-- `ledger_held::run_of` meets its contract: one outcome of the run for each way through the code.
 use Prim.Native.Nat.{_-_}
 use mathlib.Core.Path.{ap₂}
 use native.Mathlib.Omega.{arith}
 use Rattle.ledger.specs.Book.{runOf}
 use Rattle.ledger.specs.Answer.{run}
 use Rattle.ledger.proofs.Laws.{oldest-is, run-far, run-rest, run-part, run-long}
 use borrow.Author.Needs.{needs}
-use Rattle.ledger.proofs.run_of.Statement.{statement}
-use Rattle.ledger.proofs.run_of.Tie as tie
+use Rattle.ledger_held.proofs.run_of.Statement.{statement}
+use Rattle.ledger_held.proofs.run_of.Tie as tie
 
 returns : tie.Need-returns
 unfolding runOf
