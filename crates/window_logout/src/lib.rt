@@ -59,7 +59,7 @@ fn concerned_by(w: Window, conn: u32, reason: u8) -> u64
         w.held
     } else {
         let m = w.origins;
-        place_map::of(m, conn)
+        origin_maps::of(m, conn)
     }
 }
 
@@ -79,8 +79,8 @@ fn origins_left(origins: [u64; CONNS], conn: u32, reason: u8, emptied: u64) -> [
     ensures { λ r. ⌜ r ≡ pick (eqb reason recovery) (pick (ltb conn connections) (set origins conn 0) origins) (eachWithout origins emptied) ⌝ }
 {
     if reason == RECOVERY {
-        place_map::without_origin(origins, conn)
+        origin_maps::without_origin(origins, conn)
     } else {
-        place_map::each_without(origins, emptied)
+        origin_maps::each_without(origins, emptied)
     }
 }

@@ -72,7 +72,7 @@ fn entered(w: Window, d: u32, conn: u32) -> Window
 {
     let place = place_map::only(d);
     let m = w.origins;
-    let origins = place_map::with_origin(m, conn, place);
+    let origins = origin_maps::with_origin(m, conn, place);
     Window {
         next: w.next,
         handed: w.handed,

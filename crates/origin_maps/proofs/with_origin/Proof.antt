@@ -1,4 +1,4 @@
--- `place_map::with_origin` meets its contract: the other maps get no place.
+-- `origin_maps::with_origin` meets its contract: the other maps get no place.
 use Prim.Native.Nat.{ℕ, zero, suc, _<_}
 use mathlib.Core.Path.{_≡_, ap}
 use mathlib.Core.List.{List, [], _∷_}
@@ -8,9 +8,9 @@ use lib.Dec.{eqb}
 use lib.ListN.{length, getD, set}
 use borrow.Author.Needs.{needs}
 use Rattle.field.specs.Field.{pick}
 use Rattle.place_map.proofs.Bits.{four}
-use Rattle.place_map.proofs.with_origin.Statement.{statement}
-use Rattle.place_map.proofs.with_origin.Tie as tie
+use Rattle.origin_maps.proofs.with_origin.Statement.{statement}
+use Rattle.origin_maps.proofs.with_origin.Tie as tie
 
 abbrev at : List ℕ → (c k m : ℕ) → ℕ
 at l c k m = bitOr (getD l k 0) (pick (eqb c k) m 0)

@@ -1,9 +1,9 @@
--- `place_map::each_without` meets its contract.
+-- `origin_maps::each_without` meets its contract.
 use mathlib.Core.Path.{refl}
 use borrow.Author.Needs.{needs}
 use Rattle.place_map.specs.Bit.{without, eachWithout}
-use Rattle.place_map.proofs.each_without.Statement.{statement}
-use Rattle.place_map.proofs.each_without.Tie as tie
+use Rattle.origin_maps.proofs.each_without.Statement.{statement}
+use Rattle.origin_maps.proofs.each_without.Tie as tie
 
 returns : tie.Need-returns
 unfolding eachWithout without

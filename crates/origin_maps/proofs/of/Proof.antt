@@ -1,11 +1,11 @@
--- `place_map::of` meets its contract.
+-- `origin_maps::of` meets its contract.
 use Prim.Native.Nat.{_≤_}
 use mathlib.Core.Path.{_≡_, sym}
 use native.Mathlib.Omega.{arith}
 use lib.ListN.{length, List·getD-eq-default}
 use borrow.Author.Needs.{needs}
-use Rattle.place_map.proofs.of.Statement.{statement}
-use Rattle.place_map.proofs.of.Tie as tie
+use Rattle.origin_maps.proofs.of.Statement.{statement}
+use Rattle.origin_maps.proofs.of.Tie as tie
 
 returns : tie.Need-returns
 returns c = rw (c .match .keys1)

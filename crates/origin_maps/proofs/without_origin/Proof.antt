@@ -1,4 +1,4 @@
--- `place_map::without_origin` meets its contract.
+-- `origin_maps::without_origin` meets its contract.
 use Prim.Native.Nat.{ℕ}
 use mathlib.Core.Path.{ap}
 use mathlib.Core.List.{List}
@@ -6,9 +6,9 @@ use native.Mathlib.Omega.{arith}
 use lib.ListN.{set}
 use borrow.Author.Tests.{le-ltb}
 use borrow.Author.Needs.{needs}
 use Rattle.place_map.proofs.Bits.{four}
-use Rattle.place_map.proofs.without_origin.Statement.{statement}
-use Rattle.place_map.proofs.without_origin.Tie as tie
+use Rattle.origin_maps.proofs.without_origin.Statement.{statement}
+use Rattle.origin_maps.proofs.without_origin.Tie as tie
 
 returns : tie.Need-returns
 returns c = rw (c .match .keys1) (ap (λ (l : List ℕ). set l 0 0) (four 0 (c .before .args .t1) (search needs)))
