@@ -23,10 +23,6 @@ pub offer-at : (b : Book) (n t c : ℕ) (h : List ℕ) (d : ℕ) → distance b 
 unfolding bookStep
 offer-at b n t c h d e = ap (λ (x : ℕ). offerStep b x (record { header = h; ticket = t; origin = connection c; void = false })) e
 
-pub distance-is : (b : Book) (n d r : ℕ) → r ≡ next b → (d + r) % 2 ^ 32 ≡ n → d < 2 ^ 32 → distance b n ≡ d
-unfolding distance next
-distance-is b n d r e q l = omega arith
-
 module _ (b : Book) (d : ℕ) (e : Command) where
   pub step-passed : b .share ≤ d → 2 ^ 32 - d ≤ min (b .handed) (2 ^ 31) → offerStep b d e ≡ step passed [] b
   unfolding offerStep wasHandedOut

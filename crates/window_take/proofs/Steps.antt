@@ -1,22 +1,18 @@
 -- A take of the code against the book's: one law for each outcome of the book's step, and agreement after a hand-out.
 use Prim.Native.Nat.{ℕ, suc, _+_, _/_, _%_, _^_, min}
 use mathlib.Core.Path.{_≡_, refl, sym, ap, _∙_}
-use mathlib.Core.Bool.{Bool, true, false}
 use mathlib.Core.List.{List, _++_}
 use native.Mathlib.Omega.{arith}
-use native.Mathlib.Decide.{ℕ-discrete}
-use borrow.Author.Tests.{ne-eqb, eq-eqb}
-use lib.Dec.{eqb}
 use lib.ListN.{length, getD, drop, length-append, length-drop}
 use Rattle.store.specs.Slot.{inSlot}
 use Rattle.place_map.proofs.Bits.{bit-zero}
 use Rattle.window.specs.declared.Window.{Window}
 use Rattle.window.specs.PlaceSlot.{slotOf}
-use Rattle.window.specs.Book.{Origin, none, connection, Place, empty, holds, Book, next, take, nothing, command, void, step, handedOn, takeStep, firstPlace, bookStep, one-if, isFrom}
+use Rattle.window.specs.Book.{Origin, Place, empty, holds, Book, next, take, nothing, command, void, step, handedOn, takeStep, firstPlace, bookStep}
 use Rattle.window.specs.Agree.{Commands, state, heldBit, voidBit, originBit, Maps, SlotHas, Agrees, OriginAt}
 use Rattle.window.proofs.PlaceSlot.{slot-next}
 use Rattle.window.proofs.Bits.{maps-shift, shifted}
-use Rattle.window.proofs.Steps.{held-none}
+use Rattle.window.proofs.Steps.{held-none, true-of-one, false-of-none}
 
 pub shift-agrees : (w w' : Window) (cs : Commands) (b : Book) → Agrees (state w cs) b → w' .next ≡ (w .next + 1) % 2 ^ 32
     → w' .handed ≡ min (w .handed + 1) (2 ^ 31) → w' .held ≡ w .held / 2 → w' .voided ≡ w .voided / 2
@@ -36,31 +32,6 @@ shift-agrees w w' cs b g en eh ed ev el ef = record {
   in-slots = λ d. rw (slot-next w w' d en, shifted (b .held) d) (g .in-slots (suc d));
 }
 
-eq-of-one : (x c : ℕ) → one-if (eqb x c) ≡ 1 → x ≡ c
-eq-of-one x c h = go (ℕ-discrete x c)
-  where
-    go : Dec (x ≡ c) → x ≡ c
-    go (yes e) = e
-    go (no n) = absurd (omega (arith, ap one-if (ne-eqb x c n)))
-
-pub origin-connection : (c : ℕ) (p : Place) → originBit c p ≡ 1 → OriginAt (connection c) p
-unfolding originBit isFrom OriginAt
-origin-connection c empty e = tt
-origin-connection c (holds e) h = go (e .origin) h
-  where
-    go : (o : Origin) → one-if (isFrom c o) ≡ 1 → connection c ≡ o
-    go none h = absurd (omega arith)
-    go (connection x) h = ap connection (sym (eq-of-one x c h))
-
-pub origin-none : (p : Place) → ((c : ℕ) → originBit c p ≡ 0) → OriginAt none p
-unfolding originBit isFrom OriginAt
-origin-none empty f = tt
-origin-none (holds e) f = go (e .origin) f
-  where
-    go : (o : Origin) → ((c : ℕ) → one-if (isFrom c o) ≡ 0) → none ≡ o
-    go none f = refl
-    go (connection x) f = absurd (omega (arith, f x, ap one-if (eq-eqb x x refl)))
-
 pub first-bit : (w : Window) (cs : Commands) (b : Book) → Agrees (state w cs) b → w .held % 2 ≡ heldBit (firstPlace b)
 unfolding firstPlace Maps
 first-bit w cs b g = sym (bit-zero (w .held)) ∙ g .held 0
@@ -75,15 +46,6 @@ take-nothing w cs b o g e = go (firstPlace b) (sym (first-bit w cs b g) ∙ e)
   where
     go : (p : Place) → heldBit p ≡ 0 → takeStep p b o ≡ step nothing o b
     go p z = unfold takeStep in ap (λ (x : Place). takeStep x b o) (held-none p z)
-
--- a 1 of a Bool
-pub true-of-one : (t : Bool) → one-if t ≡ 1 → t ≡ true
-true-of-one true e = refl
-true-of-one false e = absurd (omega arith)
-
-pub false-of-none : (t : Bool) → (one-if t ≡ 1 → ⊥) → t ≡ false
-false-of-none true e = absurd (e refl)
-false-of-none false e = refl
 
 pub take-void : (w : Window) (cs : Commands) (b : Book) (o : List ℕ) → Agrees (state w cs) b → w .voided % 2 ≡ 1
     → bookStep b (take o) ≡ step (void (w .next)) o (handedOn b)

@@ -11,8 +11,8 @@ use Rattle.place_map.specs.Bit.{bitAt}
 use Rattle.place_map.proofs.Bits.{bit-lt}
 use Rattle.window.specs.Book.{empty}
 use Rattle.window.specs.Agree.{commands, Puts}
-use Rattle.window.proofs.Steps.{met, held-none}
-use Rattle.window_offer.proofs.Steps.{ahead-is, offer-at, distance-is, step-passed, step-beyond, step-duplicate, step-kept, place-bit, keep-agrees}
+use Rattle.window.proofs.Steps.{met, held-none, distance-is}
+use Rattle.window_offer.proofs.Steps.{ahead-is, offer-at, step-passed, step-beyond, step-duplicate, step-kept, place-bit, keep-agrees}
 use borrow.Author.Needs.{needs}
 use Rattle.window_offer.proofs.offer.Statement.{statement}
 use Rattle.window_offer.proofs.offer.Tie as tie

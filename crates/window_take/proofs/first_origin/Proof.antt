@@ -7,7 +7,7 @@ use lib.ListN.{length, getD, List·getD-eq-default}
 use Rattle.window.specs.Book.{Book, Place, firstPlace}
 use Rattle.window.specs.Agree.{Maps, originBit}
 use Rattle.place_map.proofs.Bits.{bit-zero}
-use Rattle.window_take.proofs.Steps.{origin-connection, origin-none}
+use Rattle.window.proofs.Steps.{origin-connection, origin-none}
 use borrow.Author.Needs.{needs}
 use Rattle.window_take.proofs.first_origin.Statement.{statement}
 use Rattle.window_take.proofs.first_origin.Tie as tie
