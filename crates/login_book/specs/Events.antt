@@ -92,11 +92,6 @@ abbrev pub names3 : Answer → Bool
 names3 (refused n s) = false
 names3 (answered stage transit csg nsg tsih text) = transit && eqb nsg 3
 
--- the stages that it goes through: its CSG, then with T set its NSG
-abbrev pub stagesOf : Answer → List ℕ
-stagesOf (refused n s) = []
-stagesOf (answered stage transit csg nsg tsih text) = csg ∷ pick transit (nsg ∷ []) []
-
 abbrev pub textOf : Answer → List ℕ
 textOf (refused n s) = []
 textOf (answered stage transit csg nsg tsih text) = text

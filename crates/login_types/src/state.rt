@@ -6,7 +6,7 @@ ghost use Rattle.login_types.specs.Agree.{IsFresh};
 pub struct State {
     // Refused, or in full feature phase.
     pub over: bool,
-    // A request was not refused: stage, ISID, TSIH and CID are those of the first such request.
+    // A request was not refused: ISID, TSIH and CID are those of the first such request, the stage is that after the last one.
     pub begun: bool,
     // A block was judged.
     pub judged: bool,
