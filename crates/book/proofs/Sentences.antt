@@ -25,15 +25,17 @@ use Rattle.ledger.specs.declared.Renewal.{Renewal}
 use Rattle.book.specs.declared.Given.{Given}
 use Rattle.book.specs.declared.Opening.{Opening}
 use Rattle.book.specs.Book.{Offered, denied, atOnce, numbered, offeredAs, OpenConnection, withLedger, openedBy, Connection, closed, live, Book, share, freshBook, Outputs, outputs, noOutputs, written, Choice, Call, offer, take, logout, opening, send, acknowledge, snack, resend, ask, windowNumbers, holder, refused, immediate, window, fromWindow, sent, acknowledged, run, resent, told, numbers, holding, replyTo, Step, step, connOf, withWindow, withConn, byWindow, onOpen, onConnection, lending, offerBy, loggedOut, logoutBy, openAt, sendAs, sendBy, acknowledgeBy, runStep, Asked, asked, deniedRun, from, snackBy, renewal, shown, resendBy, cmdSN, bookStep}
+use Rattle.book.specs.Book.{nextStatSN, nextIs, nextOf}
 use Rattle.book.specs.Events.{event, Turn, turn, booked, bookRun}
 use Rattle.book.specs.Effects.{WindowEffect, handsOut, ConnectionEffect, opens, closes, sends, acknowledges, windowEffect, Past, nothingDone, andThen}
 use Rattle.book.specs.Commands.{same, handOuts, next, distance, amongNext, amongLast, Latest, by, latestOffer, originOf, held, expCmdSN, maxCmdSN, voidedSince, emptied}
 use Rattle.book.specs.Statuses.{isOpen, lastSent, acknowledgedSince}
-use Rattle.book.specs.Demand.{Takes, Offers, Shows, Resends, Holds, NotRefused, isNumbered, Sentences, Each, Demand3}
+use Rattle.book.specs.Demand.{Takes, Offers, Shows, Resends, Holds, TellsNext, NotRefused, isNumbered, Sentences, Each, Demand3}
 use Rattle.response_header.proofs.Writing.{length-header}
 use Rattle.book.proofs.Small.{apart, share-fits, IsOffered, is-denied, is-immediate, is-numbered, offered-is, offered-number}
 use Rattle.book.proofs.PastWindow.{AllNumbered, WindowInv, next-is, distance-is, held-is, isHeld, window-quiet, window-keeps, window-hands, window-logs, window-fresh, count-is, exp-is, max-is, last-is, was-offered, placeIn, placeOf, headerIn, ticketIn, place-first}
 use Rattle.book.proofs.PastConns.{LiveOk, ConnIs, ConnInv, statusIn, conn-still, conn-open, conn-send, conn-ack, conn-logs, conn-fresh}
+use Rattle.book.proofs.PastNext.{NextIs, NextInv, next-still, next-open, next-send, next-ack, next-logs, next-fresh}
 
 -- each status that was sent has a header of 48 bytes
 unfoldable pub Sized : List ConnectionEffect → Type 0
@@ -48,6 +50,7 @@ pub record Inv (g : Given) (past : Past) (b : Book) : Type 0 where
   pub given : b .given ≡ g
   pub window : WindowInv g (past .window) (b .window)
   pub conns : ConnInv (past .connections) (b .conns)
+  pub next : NextInv g (past .connections) (b .conns)
   pub sized : Sized (past .connections)
 
 -- ---- after each call the book is still what the history says
@@ -58,7 +61,13 @@ module _ (g : Given) (past : Past) (b : Book) (i : Inv g past b) where
 
   quiet : Inv g (record { window = WindowEffect.none ∷ past .window; connections = ConnectionEffect.none ∷ past .connections }) b
   unfolding Sized
-  quiet = record { sized = i .sized; given = i .given; window = window-quiet (i .window); conns = conn-still (i .conns) }
+  quiet = record {
+    sized = i .sized;
+    given = i .given;
+    window = window-quiet (i .window);
+    conns = conn-still (i .conns);
+    next = next-still g (past .connections) (i .next);
+  }
 
 -- a property of what a call on a connection does, of what one that lends does, and of a choice
 by-reach : (P : Step → Type 0) (b : Book) (c : ℕ) (o : Outputs) (f : OpenConnection → Step) → P (step (refused 7) o b) → P (step (refused 8) o b)
@@ -141,6 +150,7 @@ module _ (g : Given) (past : Past) (b : Book) (i : Inv g past b) where
         given = i .given;
         window = window-keeps g (past .window) w n c t (ListN.take 48 p) (i .window) (omega (arith, i .window .share)) q;
         conns = conn-still (i .conns);
+        next = next-still g (past .connections) (i .next);
       }
       at (holds x) q l = quiet g past b i
 
@@ -165,6 +175,7 @@ module _ (g : Given) (past : Past) (b : Book) (i : Inv g past b) where
         given = i .given;
         window = window-hands g (past .window) (b .window) e (i .window) q;
         conns = conn-still (i .conns);
+        next = next-still g (past .connections) (i .next);
       }
 
       at : (x : Place) → W.firstPlace (b .window) ≡ x → Good g past b i (take o) (byWindow b (W.takeStep x (b .window) (o .header)))
@@ -176,6 +187,10 @@ module _ (g : Given) (past : Past) (b : Book) (i : Inv g past b) where
           go true = hand e q
           go false = hand e q
 
+  -- each number below 4 has a place in the book's list of connections
+  within-four : (c : ℕ) → c < 4 → c < length (b .conns)
+  within-four c l = omega (arith, i .conns .four)
+
   logout-good : (c r : ℕ) → c < 4 → Good g past b i (logout c r) (logoutBy b c r)
   unfolding Good logoutBy loggedOut W.bookStep W.logoutStep Sized
   logout-good c r l = go (leb r 2)
@@ -186,6 +201,7 @@ module _ (g : Given) (past : Past) (b : Book) (i : Inv g past b) where
         given = i .given;
         window = window-logs g (past .window) (b .window) c r _ (i .window);
         conns = conn-logs (past .connections) (b .conns) c r (i .conns) l;
+        next = next-logs g (past .connections) (b .conns) c r (i .next) (within-four c l);
       }
       go false = quiet g past b i
 
@@ -194,7 +210,13 @@ module _ (g : Given) (past : Past) (b : Book) (i : Inv g past b) where
   open-good c o = go (decLt c 4)
     where
       at : (x : Connection) → c < 4 → Good g past b i (opening c o) (openAt x b c o)
-      at closed l = record { sized = i .sized; given = i .given; window = window-quiet (i .window); conns = conn-open (past .connections) (b .conns) c o (i .conns) l }
+      at closed l = record {
+        sized = i .sized;
+        given = i .given;
+        window = window-quiet (i .window);
+        conns = conn-open (past .connections) (b .conns) c o (i .conns) l;
+        next = next-open g (past .connections) (b .conns) c o (i .next) (within-four c l);
+      }
       at (live q) l = quiet g past b i
 
       go : Dec (c < 4) → Good g past b i (opening c o) (pick (ltb c 4) (openAt (connOf b c) b c o) (step (refused 7) noOutputs b))
@@ -213,6 +235,7 @@ module _ (g : Given) (past : Past) (b : Book) (i : Inv g past b) where
         given = i .given;
         window = window-quiet (i .window);
         conns = conn-send (past .connections) (b .conns) c t h k (i .conns) l e (m .room);
+        next = next-send g (past .connections) (b .conns) c (k .ledger .next) t h (record { header = h; ticket = t }) k (i .next) (within-four c l) e;
       })
 
   acknowledge-good : (c x : ℕ) (k : OpenConnection) → c < 4 → connOf b c ≡ live k → Good g past b i (acknowledge c x) (acknowledgeBy b c x k)
@@ -232,6 +255,7 @@ module _ (g : Given) (past : Past) (b : Book) (i : Inv g past b) where
         given = i .given;
         window = window-quiet (i .window);
         conns = conn-ack (past .connections) (b .conns) c x k (i .conns) l e (good-le z);
+        next = next-ack g (past .connections) (b .conns) c x k (i .next) (within-four c l) e;
       }
       go false z = quiet g past b i
 
@@ -572,6 +596,36 @@ module _ (g : Given) (past : Past) (b : Book) (i : Inv g past b) where
           let lv : b .given .level ≡ 0 → ⊥ = λ z. omega (arith, ap (λ (y : Given). y .level) (i .given)) in
           rw (e, ne-eqb (b .given .level) 0 lv, ← (ok .status n)) (resends-at c n o long)
 
+  -- the next StatSN of a connection, by its number and by what the book has of it
+  next-at : (c : ℕ) → c < 4 → (x : Connection) → ConnIs (past .connections) c x → NextIs g (past .connections) c x
+      → TellsNext g (past .connections) c (nextOf x)
+  unfolding nextOf ConnIs NextIs
+  next-at c l closed shut n = record {
+    no-connection = (λ e. let z : _≡_ {A = ℕ} 7 8 = cc in absurd (omega arith), λ e. absurd (omega arith));
+    closed = (λ e. (l, shut), λ e. refl);
+    next = (λ e. let z : _≡_ {A = ℕ} 0 1 = cc in absurd (omega arith), λ e. absurd (apart e shut));
+  }
+  next-at c l (live k) ok n = record {
+    no-connection = (λ e. let z : _≡_ {A = ℕ} 0 1 = cc in absurd (omega arith), λ e. absurd (omega arith));
+    closed = (λ e. let z : _≡_ {A = ℕ} 0 1 = cc in absurd (omega arith), λ e. absurd (apart (ok .open-now) (e .1)));
+    next = (λ e. ok .open-now, λ e. ap (λ (y : ℕ). told (nextIs y)) n);
+  }
+
+  next-for : (c : ℕ) (x : Choice) → TellsNext g (past .connections) c (bookStep b (ask (nextStatSN c)) x .answer)
+  unfolding bookStep replyTo connOf
+  next-for c x = go (decLt c 4)
+    where
+      far : 4 ≤ c → TellsNext g (past .connections) c (refused 7)
+      far m = record {
+        no-connection = (λ e. m, λ e. refl);
+        closed = (λ e. let z : _≡_ {A = ℕ} 7 8 = cc in absurd (omega arith), λ e. absurd (omega (arith, e .0)));
+        next = (λ e. let z : _≡_ {A = ℕ} 0 1 = cc in absurd (omega arith), λ e. absurd (omega (arith, i .conns .near c e)));
+      }
+
+      go : Dec (c < 4) → TellsNext g (past .connections) c (bookStep b (ask (nextStatSN c)) x .answer)
+      go (yes l) = rw (lt-ltb c 4 l) (next-at c l (getD (b .conns) c closed) (i .conns .each c l) (i .next .each c))
+      go (no l) = let m : 4 ≤ c = omega arith in rw (le-ltb c 4 m) (far m)
+
   pub says : (t : Turn) → Sentences g past (booked b t)
   unfolding booked AllNumbered next
   says t =
@@ -589,6 +643,7 @@ module _ (g : Given) (past : Past) (b : Book) (i : Inv g past b) where
         resends = λ k n o q p vp long.
             subst (λ (y : Call). Resends g past k n (o .header) (bookStep b y x .answer) (bookStep b y x .out .header)) (sym q) (resends-for k n o x p vp long);
         window-numbers = λ q. subst (λ (y : Call). bookStep b y x .answer ≡ told (numbers (expCmdSN g (past .window)) (maxCmdSN g (past .window)))) (sym q) window-for;
+        next-stat-sn = λ k q. subst (λ (y : Call). TellsNext g (past .connections) k (bookStep b y x .answer)) (sym q) (next-for k x);
         holds = λ n q. subst (λ (y : Call). Holds g (past .window) n (bookStep b y x .answer)) (sym q) (holds-for g (past .window) b (i .window) n x);
       }
     where
@@ -601,7 +656,7 @@ module _ (g : Given) (past : Past) (b : Book) (i : Inv g past b) where
 
 inv-fresh : (g : Given) → Inv g nothingDone (freshBook g)
 unfolding freshBook Sized
-inv-fresh g = record { given = refl; window = window-fresh g; conns = conn-fresh (g .opening); sized = tt }
+inv-fresh g = record { given = refl; window = window-fresh g; conns = conn-fresh (g .opening); next = next-fresh g; sized = tt }
 
 each-says : (g : Given) (ts : List Turn) (past : Past) (b : Book) → Inv g past b → Each (Sentences g) past (bookRun b ts)
 unfolding Each bookRun

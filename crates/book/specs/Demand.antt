@@ -13,11 +13,12 @@ use Rattle.store.specs.Slot.{headerSize}
 use Rattle.window.specs.Book as W
 use Rattle.ledger.specs.Book.{Status, missing, found}
 use Rattle.book.specs.declared.Given.{Given}
-use Rattle.book.specs.Book.{Outputs, offer, take, resend, ask, windowNumbers, holder, Answer, refused, window, resent, told, numbers, holding, cmdSN}
+use Rattle.book.specs.Book.{connections, cmdSN, Outputs, offer, take, resend, ask, windowNumbers, nextStatSN, holder}
+use Rattle.book.specs.Book.{Answer, refused, window, resent, told, numbers, nextIs, holding}
 use Rattle.book.specs.Events.{Event}
-use Rattle.book.specs.Effects.{WindowEffect, handsOut, windowEffect, Past, nothingDone, andThen}
+use Rattle.book.specs.Effects.{WindowEffect, handsOut, windowEffect, ConnectionEffect, Past, nothingDone, andThen}
 use Rattle.book.specs.Commands.{handOuts, next, amongNext, amongLast, Latest, by, latestOffer, originOf, held, expCmdSN, maxCmdSN, voidedSince, keptOffers, emptied, heldNow}
-use Rattle.book.specs.Statuses.{isOpen, lastSent, acknowledgedSince}
+use Rattle.book.specs.Statuses.{isOpen, lastSent, acknowledgedSince, nextNumber}
 
 -- In all that follows: g is what the session was given, past what was done before the call (to the window, where only that is spoken
 -- of), and e the call with its answer and its lent outputs after it.
@@ -74,6 +75,13 @@ pub record Holds (g : Given) (past : List WindowEffect) (n : ℕ) (a : Answer) :
   -- a number that is held has a latest kept offer
   pub offered : held g past n ≡ true → latestOffer past n ≡ Latest.none → ⊥
 
+-- The next StatSN of the connection c: refused as NOCONN exactly when c is 4 or more, else as CLOSED exactly when c is not open. It is told exactly
+-- when c is open: the StatSN that c was given at its latest opening, plus one for each status sent on c since, modulo 2^32.
+pub record TellsNext (g : Given) (past : List ConnectionEffect) (c : ℕ) (a : Answer) : Type 0 where
+  pub no-connection : (a ≡ refused 7) ↔ (connections ≤ c)
+  pub closed : (a ≡ refused 8) ↔ ((c < connections) × (isOpen past c ≡ false))
+  pub next : (a ≡ told (nextIs (nextNumber g past c))) ↔ (isOpen past c ≡ true)
+
 -- The answer is no refusal.
 abbrev pub NotRefused : Answer → Type 0
 NotRefused a = (n : ℕ) → a ≡ refused n → ⊥
@@ -96,8 +104,9 @@ pub record Sentences (g : Given) (past : Past) (e : Event) : Type 0 where
   -- "On each open connection since its latest opening, at ErrorRecoveryLevel above 0 and with 48 bytes lent, a resend is ..".
   pub resends : (c n : ℕ) (out : Outputs) → e .call ≡ resend c n out → isOpen (past .connections) c ≡ true → 0 < g .level → headerSize ≤ length (out .header)
       → Resends g past c n (out .header) (e .answer) (e .out .header)
-  -- the window's two numbers, and who holds a number, where they are asked for
+  -- the window's two numbers, the next StatSN of a connection, and who holds a number, where they are asked for
   pub window-numbers : e .call ≡ ask windowNumbers → e .answer ≡ told (numbers (expCmdSN g (past .window)) (maxCmdSN g (past .window)))
+  pub next-stat-sn : (c : ℕ) → e .call ≡ ask (nextStatSN c) → TellsNext g (past .connections) c (e .answer)
   pub holds : (n : ℕ) → e .call ≡ ask (holder n) → Holds g (past .window) n (e .answer)
 
 -- What holds of each event of a list, in the order of the calls, with what was done before it.
