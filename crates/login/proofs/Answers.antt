@@ -16,7 +16,8 @@ use Rattle.login_types.specs.Agree.{keysOf, bookOf, answerOf, Answers}
 use Rattle.login_types.specs.declared.state.Answer.the-variants as W
 use Rattle.login_book.specs.Login.{startText, joined, withGather, fail, failText, finish, textStep, judgeStep}
 use Rattle.login_book.specs.Login.{Outcome, Texted, accept, refuse, requestStep, kindStep, loginStep}
-use Rattle.login_text.specs.Contracts.{withNames, blockResult, textOf, judgedBlock, judgedArea, areaOf, JudgedIn}
+use Rattle.login_text.specs.Contracts.{withNames, blockResult, textOf}
+use Rattle.login_gather.specs.Contracts.{judgedBlock, judgedArea, areaOf, JudgedIn}
 use Rattle.login_answer.specs.Contracts.{endStep, gatheredStep, finishStep}
 use Rattle.login.specs.Contracts.{foundStep, isSix, ReadAs, FoundAs}
 use Rattle.login_book.specs.Block.{judge, Result, stopped, went}

@@ -4,7 +4,7 @@ use login_answer::answer::finish;
 use login_answer::checks::MAX_TEXT;
 use login_answer::checks::status_of;
 use login_answer::gathered::gathered_step;
-use login_text::gather::judge_request;
+use login_gather::gather::judge_request;
 use login_types::state::Answer;
 use login_types::state::State;
 use login_types::state::Step;

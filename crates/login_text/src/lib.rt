@@ -1,3 +1,2 @@
-// The text of a login: gathered, judged as one block, and answered into the text output.
-pub mod gather;
-mod verdict;
+// The text of a login: judged as one block, and answered into the text output.
+pub mod verdict;

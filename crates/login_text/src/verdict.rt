@@ -66,7 +66,7 @@ fn settled_after(v: Verdict, s: Settled, t: Settled) -> Settled
 }
 
 // The pairs of the block and the names, after s was settled.
-pub(crate) fn judge_text(
+pub fn judge_text(
     s: Settled,
     judged: bool,
     stage: u8,

@@ -7,7 +7,7 @@ use borrow.Author.Tests.{ne-eqb}
 use lib.ListN.{length, drop, take, length-append, length-drop, take-append-drop}
 use lib.Seq.{take-at, drop-at, length-take-le, take-add}
 use Rattle.login_book.specs.Login.{joined}
-use Rattle.login_text.specs.Contracts.{blockOf, Joined}
+use Rattle.login_gather.specs.Contracts.{blockOf, Joined}
 
 module _ (g : List ℕ) (at : ℕ) (d : List ℕ) (fit : at + length d ≤ length g) where
   front : length (take at g ++ d) ≡ at + length d

@@ -1,13 +1,13 @@
 -- Nothing was gathered, or the piece was joined to what was, and what stood there is put back where the block is refused.
-use Rattle.login_text.specs.Contracts.{blockOf}
-use Rattle.login_text.proofs.Written.{judged-own, judged-joined}
+use Rattle.login_gather.specs.Contracts.{blockOf}
+use Rattle.login_gather.proofs.Area.{judged-own, judged-joined}
 use Prim.Native.Nat.{_-_}
 use native.Mathlib.Nat.{le-trans}
 use native.Mathlib.Omega.{arith}
 use borrow.Author.Tests.{eq-eqb}
 use borrow.Author.Needs.{needs}
-use Rattle.login_text.proofs.gather.judge_request.Statement.{statement}
-use Rattle.login_text.proofs.gather.judge_request.Tie as tie
+use Rattle.login_gather.proofs.gather.judge_request.Statement.{statement}
+use Rattle.login_gather.proofs.gather.judge_request.Tie as tie
 
 returns : tie.Need-returns
 unfolding blockOf

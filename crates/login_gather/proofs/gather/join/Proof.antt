@@ -7,8 +7,8 @@ use native.Mathlib.Omega.{arith}
 use lib.ListN.{length, take, drop, length-drop}
 use denote.Ref.{now}
 use borrow.Author.Needs.{needs}
-use Rattle.login_text.proofs.gather.join.Statement.{statement}
-use Rattle.login_text.proofs.gather.join.Tie as tie
+use Rattle.login_gather.proofs.gather.join.Statement.{statement}
+use Rattle.login_gather.proofs.gather.join.Tie as tie
 
 returns : tie.Need-returns
 returns c =

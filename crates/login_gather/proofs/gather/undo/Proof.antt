@@ -6,8 +6,8 @@ use native.Mathlib.Omega.{arith}
 use lib.ListN.{length, take}
 use denote.Ref.{now}
 use borrow.Author.Needs.{needs}
-use Rattle.login_text.proofs.gather.undo.Statement.{statement}
-use Rattle.login_text.proofs.gather.undo.Tie as tie
+use Rattle.login_gather.proofs.gather.undo.Statement.{statement}
+use Rattle.login_gather.proofs.gather.undo.Tie as tie
 
 slice-aggregate-append : tie.Need-slice-aggregate-append
 slice-aggregate-append c = sym (length-take-le _ _ (c .before .before .before .before .before .before .pre .1))

@@ -1,13 +1,13 @@
 // Text that comes in pieces: gathered while C is set, joined to the last piece, and judged as one block.
-use crate::verdict::judge_text;
 use key_table::parameters::Settled;
 use login_block::block::Judged;
 use login_block::block::Verdict;
+use login_text::verdict::judge_text;
 use text::slice::append;
 ghost use mathlib.Core.Path.{_≡_};
 ghost use Prim.Native.Nat.{_+_, _≤_};
 ghost use lib.ListN.{length, take};
-ghost use Rattle.login_text.specs.Contracts.{blockOf, Joined, undone, JudgedIn};
+ghost use Rattle.login_gather.specs.Contracts.{blockOf, Joined, undone, JudgedIn};
 
 // The block to judge: the request's own data if nothing was gathered, and the gathered bytes otherwise.
 fn block_of<'a>(piece: &'a [u8], gather: &'a [u8], gathered: usize) -> &'a [u8]

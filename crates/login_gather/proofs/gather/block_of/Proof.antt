@@ -1,10 +1,10 @@
-use Rattle.login_text.specs.Contracts.{blockOf}
+use Rattle.login_gather.specs.Contracts.{blockOf}
 use lib.Seq.{length-take-le}
 use mathlib.Core.Path.{sym}
 use Prim.Native.Nat.{_-_}
 use borrow.Author.Tests.{eq-eqb, ne-eqb}
-use Rattle.login_text.proofs.gather.block_of.Statement.{statement}
-use Rattle.login_text.proofs.gather.block_of.Tie as tie
+use Rattle.login_gather.proofs.gather.block_of.Statement.{statement}
+use Rattle.login_gather.proofs.gather.block_of.Tie as tie
 
 slice-aggregate-result : tie.Need-slice-aggregate-result
 slice-aggregate-result c = sym (length-take-le _ _ (c .before .before .pre))
