@@ -11,14 +11,13 @@ use key_values::value::settle;
 use text::slice::lists;
 use text::slice::same_bytes;
 ghost use mathlib.Core.Path.{_≡_};
-ghost use mathlib.Core.Bool.{true, false};
+ghost use mathlib.Core.Bool.{false};
 ghost use Prim.Native.Nat.{_≤_, _<_};
-ghost use lib.ListN.{set, getD};
+ghost use lib.ListN.{getD};
 ghost use Rattle.text.specs.Text.{pick, listed};
 ghost use Rattle.key_table.specs.Table.{kindAt};
 ghost use Rattle.key_values.specs.declared.value.Judgement.the-variants as J;
 ghost use Rattle.keys.specs.Judge.{goodLength, initiatorName, targetName, sessionType, judgeBy, stands, leadingOnly, judgeKey, judgeNamed};
-ghost use Rattle.keys.specs.Contracts.{settledOf, after};
 
 // InitiatorName and TargetName have 1 to 223 bytes.
 fn length_good(v: &[u8]) -> bool
@@ -145,41 +144,4 @@ pub fn judge_pair(
     }
     let came = seen[k];
     judge_key(came, stage, leading, ours, k, v)
-}
-
-// Key k came.
-fn mark(seen: &mut [bool; 28], k: usize)
-    requires { ⌜ k < 28 ⌝ }
-    ensures { λ _. ⌜ now (seen .exit) ≡ set (now (seen .entry)) k true ⌝ }
-{
-    seen[k] = true;
-}
-
-// Key k has this value, if it is a key of the table.
-fn put(values: &mut [u32], k: usize, n: u32)
-    ensures { λ _. ⌜ now (values .exit) ≡ set (now (values .entry)) k n ⌝ }
-{
-    if k < values.len() {
-        values[k] = n;
-    }
-}
-
-// What a judged pair leaves, unless it is refused: its key came, and its value is in force. In place, for it is done for each pair.
-pub fn settle_pair(seen: &mut [bool; 28], values: &mut [u32], k: usize, j: Judgement)
-    requires { ⌜ k ≤ 28 ⌝ }
-    ensures { λ _. ⌜ settledOf (now (seen .exit)) (now (values .exit)) ≡ after (settledOf (now (seen .entry)) (now (values .entry))) k j ⌝ }
-{
-    if k == KNOWN {
-        return;
-    }
-    match j {
-        Judgement::Refused(_) => {}
-        Judgement::Said(_) => {
-            mark(seen, k);
-        }
-        Judgement::Settles(n, _) => {
-            mark(seen, k);
-            put(values, k, n);
-        }
-    }
 }

@@ -4,8 +4,8 @@ use lib.Seq.{set-out}
 use lib.ListN.{length-set}
 use mathlib.Core.Path.{refl, sym}
 use denote.Ref.{now}
-use Rattle.keys.proofs.judge.put.Statement.{statement}
-use Rattle.keys.proofs.judge.put.Tie as tie
+use Rattle.key_settled.proofs.put.Statement.{statement}
+use Rattle.key_settled.proofs.put.Tie as tie
 
 returns-2 : tie.Need-returns-2
 returns-2 c = sym (set-out (now (c .before .args .values)) _ _ (c .if1 .left))

@@ -1,9 +1,9 @@
 -- The definition goes by the same cases: an unknown key, then each judgement.
 use native.Mathlib.Omega.{arith}
 use Rattle.keys.specs.Contracts.{after}
 use borrow.Author.Tests.{eq-eqb, ne-eqb}
-use Rattle.keys.proofs.judge.settle_pair.Statement.{statement}
-use Rattle.keys.proofs.judge.settle_pair.Tie as tie
+use Rattle.key_settled.proofs.settle_pair.Statement.{statement}
+use Rattle.key_settled.proofs.settle_pair.Tie as tie
 
 returns : tie.Need-returns
 unfolding after
