@@ -1,11 +1,12 @@
 //! What each page is held to. A check gives its findings, each with the page's name and the line.
 
 use crate::page::{Page, Quote};
-use crate::references::{code_of, edit_of, file_of, is_name, is_path, led, listed};
+use crate::references::{code_of, edit_of, file_of, in_folder, is_name, is_path, led, listed};
 use crate::tree;
 use drawbevel::Drawbevel;
 use std::collections::BTreeSet;
 use std::path::Path;
+use testkit::c::root;
 
 /// Longest line of a page that is held to it, in characters.
 const LONGEST_LINE: usize = 160;
@@ -46,7 +47,7 @@ pub fn dead_ends(page: &Page) -> Vec<String> {
             let anchors = if of_page { page.anchors() } else { there() };
             anchors.iter().any(|each| each == anchor)
         };
-        if !tree::exists(&file) || !(anchor.is_empty() || leads(anchor)) {
+        if !root().join(&file).exists() || !(anchor.is_empty() || leads(anchor)) {
             dead.push(page.finding(line, &format!("the link {target} leads nowhere")));
         }
     }
@@ -94,19 +95,45 @@ pub fn unruled(page: &Page) -> Vec<String> {
     findings
 }
 
-/// The rows of the tables of two columns whose head is this: their lines and cells.
+/// The rows of the tables whose head is this: the line, the first cell and the rest.
 fn rows<'a>(page: &'a Page, head: &str) -> Vec<(usize, &'a str, &'a str)> {
     let (mut rows, mut inside) = (Vec::new(), false);
     for (index, line) in page.text.lines().enumerate() {
         inside = line == head || inside && line.starts_with('|');
         if inside && line != head && !line.starts_with("|---") {
             let cells = line.trim_matches('|').split_once(" | ");
-            let (first, second) = cells.unwrap_or((line, ""));
-            rows.push((index + 1, first, second));
+            let (first, rest) = cells.unwrap_or((line, ""));
+            rows.push((index + 1, first, rest));
         }
     }
     assert!(!rows.is_empty(), "{}: no table '{head}'", page.name);
     rows
+}
+
+/// In PROOF.md's first table a name that comes without a file is in one that its row names.
+pub fn untabled(page: &Page) -> Vec<String> {
+    let head = "| Demand | Statement | Definitions to read beside paper 01 |";
+    let mut findings = Vec::new();
+    for (line, demand, rest) in rows(page, head) {
+        let row = format!("{demand} | {rest}");
+        let quotes = page.quotes(&row);
+        let (listed, in_folder) = (listed(&quotes), in_folder(&quotes));
+        let led: BTreeSet<_> = led(&quotes).into_iter().map(|(index, _)| index).collect();
+        let files: Vec<_> = quotes
+            .iter()
+            .filter_map(|quote| file_of(quote.text))
+            .chain(in_folder.iter().flatten().cloned())
+            .collect();
+        for (index, Quote { text, .. }) in quotes.iter().enumerate() {
+            let elsewhere = listed[index].is_some() || in_folder[index].is_some();
+            let alone = is_name(text) && !elsewhere && !led.contains(&index);
+            if alone && !files.iter().any(|file| tree::defines(file, text)) {
+                let what = format!("`{text}` isn't in a file that its row names");
+                findings.push(page.finding(line, &what));
+            }
+        }
+    }
+    findings
 }
 
 /// In PROOF.md's tables of wrong programs a name without a crate is of the crate named last before it in its cell, and a function's cell may

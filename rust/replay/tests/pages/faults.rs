@@ -155,7 +155,19 @@ pub const ALL: &[Fault] = &[
         "`session_statuses/level_zero`",
         "session_snack",
     ),
-    // ---- ARCHITECTURE.md: a crate that isn't there, one that lacks, one twice, a path
+    (
+        "docs/PROOF.md",
+        "everything equals `loginStep`",
+        "everything equals `loginSteps`",
+        "`loginSteps`",
+    ),
+    // ---- ARCHITECTURE.md: a file beside another, a crate that isn't there, one that lacks, one twice, a path
+    (
+        "docs/ARCHITECTURE.md",
+        "`FieldRules.antt`",
+        "`Layouts.antt`",
+        "`Layouts.antt`",
+    ),
     (
         "docs/ARCHITECTURE.md",
         "| `store` |",
@@ -194,6 +206,12 @@ pub const ALL: &[Fault] = &[
         "(RULES.md#known-peers)",
         "(RULES.md#peers)",
         "#peers",
+    ),
+    (
+        "docs/SCRIPT.md",
+        "`player.rs`",
+        "`players.rs`",
+        "`players.rs`",
     ),
     // ---- other pages
     (

@@ -7,7 +7,9 @@ mod page;
 mod references;
 mod tree;
 
-use checks::{crates_amiss, dead_ends, example_amiss, long_lines, unnamed, unproved, unruled};
+use checks::{
+    crates_amiss, dead_ends, example_amiss, long_lines, unnamed, unproved, unruled, untabled,
+};
 use page::Page;
 use references::missing;
 
@@ -19,9 +21,9 @@ fn checks(name: &str) -> Vec<Check> {
     match name {
         "README.md" => checks.extend([missing as Check, long_lines]),
         "docs/RULES.md" => checks.extend([missing as Check, unruled, long_lines]),
-        "docs/PROOF.md" => checks.extend([missing as Check, unproved, unnamed]),
+        "docs/PROOF.md" => checks.extend([missing as Check, untabled, unproved, unnamed]),
         "docs/ARCHITECTURE.md" => checks.extend([missing as Check, crates_amiss]),
-        "docs/SCRIPT.md" => checks.extend([example_amiss as Check, long_lines]),
+        "docs/SCRIPT.md" => checks.extend([missing as Check, example_amiss, long_lines]),
         "docs/DECISIONS.md" => checks.push(missing),
         // It tells of what was.
         "docs/CHANGES.md" => {}

@@ -4,7 +4,7 @@
 //!   colon or a parenthesis, or before it and "in" or a parenthesis, are defined there. After `crate/specs` and a colon come its files.
 //! - `crate::function`, perhaps with modules or a type between, is in the crate's code.
 //! - `crate/name` is a must-fail edit of that crate, and so are the names with `_` that follow in its list.
-//! - A path begins with a folder of the root.
+//! - A path begins with a folder of the root. The name of a file alone is in the folder that was named last, or beside the file.
 
 use crate::page::{Page, Quote, is_separator};
 use crate::tree;
@@ -89,6 +89,39 @@ pub fn led(quotes: &[Quote]) -> Vec<(usize, String)> {
     led
 }
 
+/// For each quote the file that it is in the list after `crate/specs` and a colon, if any.
+pub fn in_folder(quotes: &[Quote]) -> Vec<Option<String>> {
+    let mut files = Vec::new();
+    let (mut folder, mut opened): (Option<&str>, bool) = (None, false);
+    for quote in quotes {
+        let goes_on = if opened {
+            quote.before.trim() == ":"
+        } else {
+            is_separator(quote.before)
+        };
+        let own = Some(quote.text).filter(|text| is_specs(text));
+        opened = own.is_some();
+        let within = folder.filter(|_| goes_on && !opened);
+        files.push(within.map(|of| format!("crates/{of}/{}.antt", quote.text)));
+        folder = own.or(within);
+    }
+    files
+}
+
+/// Whether a quote is `crate/specs`.
+fn is_specs(text: &str) -> bool {
+    let of = text.strip_suffix("/specs");
+    of.is_some_and(|of| !of.contains('/'))
+}
+
+/// Whether a quote is the name of a file, without a folder.
+fn is_file_name(text: &str) -> bool {
+    let ends = [".antt", ".rt", ".rs", ".c", ".h"];
+    !text.starts_with('.')
+        && !text.contains([' ', '/'])
+        && ends.iter().any(|end| text.ends_with(end))
+}
+
 /// Files, code and edits that a page names and that aren't there, and names that aren't in the file they are given with.
 pub fn missing(page: &Page) -> Vec<String> {
     let prose = page.prose();
@@ -100,48 +133,40 @@ pub fn missing(page: &Page) -> Vec<String> {
             missing.push(page.finding(quote.line, &what));
         }
     };
-    let of_name = |text: &str| text.rsplit("::").next().unwrap().to_owned();
     for (index, file) in led(&quotes) {
         let quote = &quotes[index];
         if file_of(quote.text).is_none() && !is_path(quote.text) {
-            check(quote, tree::defines(&file, &of_name(quote.text)), &file);
+            let name = quote.text.rsplit("::").next().unwrap();
+            check(quote, tree::defines(&file, name), &file);
         }
     }
-    let mut folder: Option<&str> = None;
-    let mut edits: Option<&str> = None;
-    for (quote, file) in quotes.iter().zip(listed(&quotes)) {
-        let goes_on = is_separator(quote.before);
-        folder = folder.filter(|_| goes_on || quote.before.trim() == ":");
-        edits = edits.filter(|_| goes_on && quote.text.contains('_'));
+    let (mut path, mut edits) = ("", None);
+    let places = listed(&quotes).into_iter().zip(in_folder(&quotes));
+    for (quote, (file, in_folder)) in quotes.iter().zip(places) {
+        let text = quote.text;
+        edits = edits.filter(|_| is_separator(quote.before) && text.contains('_'));
         if let Some(file) = file {
-            check(quote, tree::defines(&file, quote.text), &file);
-        } else if let Some(path) = file_of(quote.text) {
-            check(quote, tree::exists(&path), "crates");
-        } else if let Some((of, name)) = code_of(quote.text) {
+            check(quote, tree::defines(&file, text), &file);
+        } else if let Some(file) = in_folder {
+            check(quote, tree::exists(&file), "the folder before it");
+        } else if let Some(file) = file_of(text) {
+            check(quote, tree::exists(&file), "crates");
+        } else if is_specs(text) {
+            check(quote, tree::exists(&format!("crates/{text}")), "crates");
+        } else if is_file_name(text) {
+            let folder = tree::folder(path);
+            check(quote, tree::exists(&format!("{folder}/{text}")), folder);
+        } else if let Some((of, name)) = code_of(text) {
             check(quote, tree::has_code(of, name), &format!("crates/{of}/src"));
-        } else if let Some((of, name)) = edit_of(quote.text) {
+        } else if let Some((of, name)) = edit_of(text) {
             check(quote, tree::is_edit(of, name), "the must-fail edits");
             edits = Some(of);
         } else if let Some(of) = edits {
-            check(
-                quote,
-                tree::is_edit(of, quote.text),
-                &format!("crates/{of}/must-fail"),
-            );
-        } else if let Some(of) = quote
-            .text
-            .strip_suffix("/specs")
-            .filter(|of| !of.contains('/'))
-        {
-            check(
-                quote,
-                tree::exists(&format!("crates/{}", quote.text)),
-                "crates",
-            );
-            folder = Some(of);
-        } else if let Some(of) = folder {
-            let file = format!("crates/{of}/specs/{}.antt", quote.text);
-            check(quote, tree::exists(&file), &format!("crates/{of}/specs"));
+            let place = format!("crates/{of}/must-fail");
+            check(quote, tree::is_edit(of, text), &place);
+        }
+        if is_path(text) {
+            path = text;
         }
     }
     missing

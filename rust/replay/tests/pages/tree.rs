@@ -52,6 +52,14 @@ pub fn exists(path: &str) -> bool {
     !found.is_empty()
 }
 
+/// The folder that a path leads to, or the one in which its file is.
+pub fn folder(path: &str) -> &str {
+    if root().join(path).is_dir() {
+        return path;
+    }
+    path.rsplit_once('/').map_or("", |(folder, _)| folder)
+}
+
 /// Whether a crate has a must-fail edit of this name.
 pub fn is_edit(of: &str, name: &str) -> bool {
     exists(&format!("crates/{of}/must-fail/{name}.edit"))
