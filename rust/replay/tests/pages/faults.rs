@@ -184,8 +184,8 @@ pub const ALL: &[Fault] = &[
     (
         "docs/ARCHITECTURE.md",
         "`rust/drawbevel/tests/header`",
-        "`rust/drawbevel/tests/typed.c`",
-        "typed.c",
+        "`rust/drawbevel/tests/untyped.c`",
+        "untyped.c",
     ),
     // ---- SCRIPT.md: an answer, one that lacks, links
     (
