@@ -55,11 +55,11 @@ pub fn whole_length(input: &[u8], limits: Limits) -> LengthAnswer
     if !is_known(input[0] % 64) {
         return LengthAnswer::Refused(Refusal::Opcode);
     }
-    let data_length = data_length(input);
-    if (limits.data_segment as usize) < data_length {
+    let data = data_length(input);
+    if (limits.data_segment as usize) < data {
         return LengthAnswer::Refused(Refusal::TooLong);
     }
-    let whole = data_start(input) + (data_length + 3) / 4 * 4;
+    let whole = data_start(input) + (data + 3) / 4 * 4;
     LengthAnswer::Whole(whole as u32)
 }
 
