@@ -112,7 +112,7 @@ fn rows<'a>(page: &'a Page, head: &str) -> Vec<(usize, &'a str, &'a str)> {
 
 /// In PROOF.md's first table a name that comes without a file is in one that its row names.
 pub fn untabled(page: &Page) -> Vec<String> {
-    let head = "| Demand | Statement | Definitions to read beside paper 01 |";
+    let head = "| Demand | Statement | Definitions to read beside the rules (`docs/RULES.md`) |";
     let mut findings = Vec::new();
     for (line, demand, rest) in rows(page, head) {
         let row = format!("{demand} | {rest}");
