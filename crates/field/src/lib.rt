@@ -98,6 +98,42 @@ pub fn put(h: &mut [u8], at: usize, v: u64)
     place(h, at, bytes);
 }
 
+// The four bytes of v, the highest first.
+fn four_bytes_of(v: u32) -> [u8; 4]
+    ensures { λ r. ⌜ r ≡ bytesOf 4 v ⌝ }
+{
+    let v1 = v / 256;
+    let v2 = v1 / 256;
+    let v3 = v2 / 256;
+    [
+        (v3 % 256) as u8,
+        (v2 % 256) as u8,
+        (v1 % 256) as u8,
+        (v % 256) as u8,
+    ]
+}
+
+// Writes four bytes from at on, by value as place does.
+fn place_four(h: &mut [u8], at: usize, bytes: [u8; 4])
+    requires { ⌜ at + 4 ≤ length (now h) ⌝ }
+    ensures { λ _. ⌜ now (h .exit) ≡ paste (now (h .entry)) at bytes 4 ⌝ }
+{
+    let mut i: usize = 0;
+    while i < 4 {
+        h[at + i] = bytes[i];
+        i += 1;
+    }
+}
+
+// Writes v into the four bytes from at on, the highest byte first.
+pub fn put_four(h: &mut [u8], at: usize, v: u32)
+    requires { ⌜ at + 4 ≤ length (now h) ⌝ }
+    ensures { λ _. ⌜ now (h .exit) ≡ sets (now (h .entry)) at (bytesOf 4 v) ⌝ }
+{
+    let bytes = four_bytes_of(v);
+    place_four(h, at, bytes);
+}
+
 // A number of eight bytes from its two halves.
 pub fn pair(a: u32, b: u32) -> u64
     ensures { λ r. ⌜ bytesOf 8 r ≡ bytesOf 4 a ++ bytesOf 4 b ⌝ }

@@ -1,4 +1,4 @@
--- The tables of the twelve kinds are what the contracts' definitions say: of each response written, and of each request read.
+-- The tables of the fifteen kinds are what the contracts' definitions say: of each response written, and of each request read.
 use mathlib.Core.Path.{_≡_, refl, sym, ap, _∙_, subst}
 use mathlib.Core.Bool.{Bool, true, false, _&&_, _||_}
 use mathlib.Core.List.{List, [], _++_}
@@ -6,12 +6,12 @@ use Prim.Native.Nat.{ℕ, zero, suc, _+_, _*_, _/_, _%_, _^_, _<_, _≤_}
 use mathlib.Core.Logic.{_⊎_, inl, inr, ⊎-elim}
 use native.Mathlib.Nat.{zero-add, add-zero}
 use native.Mathlib.Omega.{arith}
-use borrow.Author.Tests.{ltb-true, ltb-false, lt-leb, ne-eqb, eqb-true, eqb-false}
+use borrow.Author.Tests.{ltb-true, ltb-false, eqb-true, eqb-false}
 use lib.Dec.{T, eqb, ltb, lit<}
 use lib.ListN.{length, getD}
 use Rattle.field.specs.Field.{beAt, bytesOf, pick, bit, byte}
 use Rattle.header_tables.specs.Table.{Fits, sound, written, readBy, count, named, filled}
-use Rattle.header_tables.specs.Layout.{Kind, nopOut, scsiCommand, taskManagement, login, logout, snack, nopIn, scsiResponse, taskManagementResponse, loginResponse, logoutResponse, reject, tableOf, bitOf, responseKind, requestKind, responseFields, requestFields, ResponseFits, NumbersFit}
+use Rattle.header_tables.specs.Layout.{Kind, nopOut, scsiCommand, taskManagement, login, dataOut, logout, snack, nopIn, scsiResponse, taskManagementResponse, loginResponse, dataIn, logoutResponse, r2t, reject, tableOf, bitOf, responseKind, requestKind, responseFields, requestFields, ResponseFits, NumbersFit}
 use Rattle.response_header.specs.Response.{headerBytes, kindFields, weigh, refusalIn, dataLengthIn, tooLong, fieldsFit}
 use Rattle.request_header.specs.Request.{readPdu, got, known, opcodeOf, sharedOk, pduOf, requestOf}
 use Rattle.request_header.specs.declared.Limits.{Limits}
@@ -20,6 +20,7 @@ use Rattle.response_header.specs.declared.Numbers.{Numbers}
 use Rattle.response_header.specs.declared.Response.{Response}
 use Rattle.response_header.specs.declared.Response.the-variants as R
 use Rattle.request_header.proofs.Reading.{got-all}
+use Rattle.request_header.proofs.FieldRules.{known-last}
 use Rattle.header_tables.proofs.Table.{back, named-filled}
 
 pub sound-all : (k : Kind) → T (sound 0 (tableOf k))
@@ -27,13 +28,16 @@ sound-all nopOut = tt
 sound-all scsiCommand = tt
 sound-all taskManagement = tt
 sound-all login = tt
+sound-all dataOut = tt
 sound-all logout = tt
 sound-all snack = tt
 sound-all nopIn = tt
 sound-all scsiResponse = tt
 sound-all taskManagementResponse = tt
 sound-all loginResponse = tt
+sound-all dataIn = tt
 sound-all logoutResponse = tt
+sound-all r2t = tt
 sound-all reject = tt
 
 -- ---- responses
@@ -52,6 +56,12 @@ login-flags : (t : Bool) (c n : ℕ) → weigh t 0x80 + c * 4 + n ≡ n + 4 * (c
 login-flags true c n = omega arith
 login-flags false c n = omega arith
 
+data-in-flags : (f a : Bool) → weigh f 0x80 + weigh a 0x40 ≡ 0 + 64 * (bitOf a + 2 * bitOf f)
+data-in-flags true true = refl
+data-in-flags true false = refl
+data-in-flags false true = refl
+data-in-flags false false = refl
+
 -- a response's 48 bytes are its table's
 pub response-written : (r : Response) (n : Numbers) → headerBytes r n ≡ written (tableOf (responseKind r)) (values r n)
 unfolding headerBytes kindFields bytesOf
@@ -59,7 +69,9 @@ response-written (R.NopIn r) n = refl
 response-written (R.ScsiResponse r) n = rw (← (scsi-flags (r .overflow) (r .underflow)))
 response-written (R.TaskManagementResponse r) n = refl
 response-written (R.LoginResponse r) n = rw (← (login-flags (r .transit) (r .csg) (r .nsg)))
+response-written (R.DataIn r) n = rw (← (data-in-flags (r .«is_final») (r .acknowledge)))
 response-written (R.LogoutResponse r) n = refl
+response-written (R.R2t r) n = refl
 response-written (R.Reject r) n = refl
 
 counted : (r : Response) (n : Numbers) → length (responseFields r n) ≡ count (tableOf (responseKind r))
@@ -67,7 +79,9 @@ counted (R.NopIn r) n = refl
 counted (R.ScsiResponse r) n = refl
 counted (R.TaskManagementResponse r) n = refl
 counted (R.LoginResponse r) n = refl
+counted (R.DataIn r) n = refl
 counted (R.LogoutResponse r) n = refl
+counted (R.R2t r) n = refl
 counted (R.Reject r) n = refl
 
 -- and its table reads its fields back from them
@@ -113,7 +127,10 @@ response-fits max (R.LoginResponse r) n e f g =
     let c = ands (ltb (r .csg) 4) (ltb (r .nsg) 4) (b .0) in
     let isid = ltb-true (r .isid) 0x1_0000_0000_0000 (b .1) in
     (omega arith, (omega (arith, bit-lt (r .transit), ltb-true (r .csg) 4 (c .0), ltb-true (r .nsg) 4 (c .1)), omega (arith, u .0)))
+response-fits max (R.DataIn r) n e f g =
+    (omega arith, (omega (arith, bit-lt (r .«is_final»), bit-lt (r .acknowledge)), omega (arith, unrefused max (R.DataIn r) e .0)))
 response-fits max (R.LogoutResponse r) n e f g = (omega arith, (omega arith, omega arith))
+response-fits max (R.R2t r) n e f g = (omega arith, (omega arith, omega arith))
 response-fits max (R.Reject r) n e f g = omega arith
 
 -- ---- requests
@@ -122,15 +139,13 @@ choose : (b : Bool) → (b ≡ true) ⊎ (b ≡ false)
 choose true = inl refl
 choose false = inr refl
 
--- the six opcodes that are read
-known-elim : (P : ℕ → Type 0) (op : ℕ) → known op ≡ true → P 0x00 → P 0x01 → P 0x02 → P 0x03 → P 0x06 → P 0x10 → P op
-unfolding known
-known-elim P op k a b c d e f =
+-- the seven opcodes that are read
+known-elim : (P : ℕ → Type 0) (op : ℕ) → known op ≡ true → P 0x00 → P 0x01 → P 0x02 → P 0x03 → P 0x05 → P 0x06 → P 0x10 → P op
+known-elim P op k a b c d e f g =
     let step : (j : ℕ) → P j → ((op ≡ j → ⊥) → P op) → P op =
     λ j x r. ⊎-elim (λ t. subst P (sym (eqb-true op j t)) x) (λ u. r (eqb-false op j u)) (choose (eqb op j)) in
-    step 0x00 a (λ n0. step 0x01 b (λ n1. step 0x02 c (λ n2. step 0x03 d (λ n3. step 0x06 e (λ n6. step 0x10 f (λ n16.
-    let z : _≡_ {A = ℕ} 0 1 = cc (rw (lt-leb op 3 (omega arith), ne-eqb op 0x06 n6, ne-eqb op 0x10 n16) at k) in
-    absurd (omega arith)))))))
+    step 0x00 a (λ n0. step 0x01 b (λ n1. step 0x02 c (λ n2. step 0x03 d (λ n3. step 0x05 e (λ n5. step 0x06 f (λ n6.
+    subst P (sym (known-last op k n0 n1 n2 n3 n5 n6)) g))))))
 
 be-one : (s : List ℕ) (at : ℕ) → beAt s at 1 ≡ byte s at
 unfolding beAt
@@ -161,21 +176,21 @@ Read s op =
 
 module _ (s : List ℕ) (h : (i : ℕ) → getD s i 0 < 256) where
   -- the shared rules: byte 1's highest bit is set, and TotalAHSLength is 0
-  top : (op : ℕ) → eqb op 0x01 ≡ false → eqb op 0x03 ≡ false → sharedOk op s ≡ true → byte s 1 / 128 ≡ 1
+  top : (op : ℕ) → eqb op 0x01 ≡ false → eqb op 0x03 ≡ false → eqb op 0x05 ≡ false → sharedOk op s ≡ true → byte s 1 / 128 ≡ 1
   unfolding sharedOk
-  top op a b e =
-      let t = ands (bit (byte s 1) 128) _ (simp (a, b, or-false) at e) in
+  top op a b c e =
+      let t = ands (bit (byte s 1) 128) _ (simp (a, b, c, or-false) at e) in
       omega (arith, h 1, eqb-true (byte s 1 / 128 % 2) 1 (t .0))
 
   no-ahs : (op : ℕ) → eqb op 0x01 ≡ false → sharedOk op s ≡ true → byte s 4 ≡ 0
   unfolding sharedOk
   no-ahs op a e =
-      let t = ands ((bit (byte s 1) 128 || eqb op 0x01) || eqb op 0x03) (eqb (byte s 4) 0 || eqb op 0x01) e in
+      let t = ands (((bit (byte s 1) 128 || eqb op 0x01) || eqb op 0x03) || eqb op 0x05) (eqb (byte s 4) 0 || eqb op 0x01) e in
       eqb-true (byte s 4) 0 (rw (a, or-false) at (t .1))
 
   nop-out-read : Read s 0x00
   unfolding pduOf requestOf
-  nop-out-read o e = rw (be-one s 0, be-one s 1, be-one s 4, o, top 0x00 refl refl e, no-ahs 0x00 refl e, and-true, bit-back)
+  nop-out-read o e = rw (be-one s 0, be-one s 1, be-one s 4, o, top 0x00 refl refl refl e, no-ahs 0x00 refl e, and-true, bit-back)
 
   scsi-command-read : Read s 0x01
   unfolding pduOf requestOf
@@ -188,7 +203,7 @@ module _ (s : List ℕ) (h : (i : ℕ) → getD s i 0 < 256) where
 
   task-management-read : Read s 0x02
   unfolding pduOf requestOf
-  task-management-read o e = rw (be-one s 0, be-one s 1, be-one s 4, o, top 0x02 refl refl e, no-ahs 0x02 refl e, and-true, bit-back)
+  task-management-read o e = rw (be-one s 0, be-one s 1, be-one s 4, o, top 0x02 refl refl refl e, no-ahs 0x02 refl e, and-true, bit-back)
 
   login-read : Read s 0x03
   unfolding pduOf requestOf
@@ -212,14 +227,20 @@ module _ (s : List ℕ) (h : (i : ℕ) → getD s i 0 < 256) where
         bit-back (x / 128),
       )
 
+  data-out-read : Read s 0x05
+  unfolding pduOf requestOf
+  data-out-read o e =
+      let f : byte s 1 / 128 ≡ byte s 1 / 128 % 2 = omega (arith, h 1) in
+      rw (be-one s 0, be-one s 1, be-one s 4, o, no-ahs 0x05 refl e, bit-back (byte s 1 / 128), ← f)
+
   logout-read : Read s 0x06
   unfolding pduOf requestOf
-  logout-read o e = rw (be-one s 0, be-one s 1, be-one s 4, o, top 0x06 refl refl e, no-ahs 0x06 refl e, and-true, bit-back)
+  logout-read o e = rw (be-one s 0, be-one s 1, be-one s 4, o, top 0x06 refl refl refl e, no-ahs 0x06 refl e, and-true, bit-back)
 
   snack-read : Read s 0x10
   unfolding pduOf requestOf
   snack-read o e =
-      let t : byte s 1 / 16 / 8 ≡ 1 = omega (arith, top 0x10 refl refl e) in
+      let t : byte s 1 / 16 / 8 ≡ 1 = omega (arith, top 0x10 refl refl refl e) in
       rw (be-one s 0, be-one s 1, be-one s 4, o, t, no-ahs 0x10 refl e)
 
 -- what a read request shows is what its table reads
@@ -228,5 +249,5 @@ request-read m s p e h =
     let g = got-all m s p e in
     rw (g .fields)
     (known-elim (Read s) (opcodeOf s) (g .opcode)
-    (nop-out-read s h) (scsi-command-read s h) (task-management-read s h) (login-read s h) (logout-read s h) (snack-read s h)
+    (nop-out-read s h) (scsi-command-read s h) (task-management-read s h) (login-read s h) (data-out-read s h) (logout-read s h) (snack-read s h)
     refl (g .shared))

@@ -32,7 +32,7 @@ got-fits m s p e h =
     rw (got-all m s p e .fields) (record {
       lun = either (below 64) (eqb op 3 || eqb op 6) (lit< tt) (be-lt s 8 8 h);
       «initiator_task_tag» = be-lt s 16 4 h;
-      «cmd_sn» = either (below 32) (eqb op 16) (lit< tt) (be-lt s 24 4 h);
+      «cmd_sn» = either (below 32) (eqb op 5 || eqb op 16) (lit< tt) (be-lt s 24 4 h);
       «exp_stat_sn» = be-lt s 28 4 h;
       «data_segment_length» = be-lt s 5 3 h;
       request =
@@ -40,8 +40,9 @@ got-fits m s p e h =
           (either RequestFits (eqb op 1) (omega arith, h 4, be-lt s 20 4 h, be-lt s 32 8 h, be-lt s 40 8 h)
           (either RequestFits (eqb op 2) (omega arith, be-lt s 20 4 h, be-lt s 32 4 h, be-lt s 36 4 h)
           (either RequestFits (eqb op 3) (omega arith, omega arith, h 2, h 3, be-lt s 8 6 h, be-lt s 14 2 h, be-lt s 20 2 h)
+          (either RequestFits (eqb op 5) (be-lt s 20 4 h, be-lt s 36 4 h, be-lt s 40 4 h)
           (either RequestFits (eqb op 6) (omega arith, be-lt s 20 2 h)
-          (omega arith, be-lt s 20 4 h, be-lt s 40 4 h, be-lt s 44 4 h)))));
+          (omega arith, be-lt s 20 4 h, be-lt s 40 4 h, be-lt s 44 4 h))))));
     })
 
 -- its first byte is its kind's opcode
@@ -51,5 +52,7 @@ header-opcode (R.NopIn r) n = refl
 header-opcode (R.ScsiResponse r) n = refl
 header-opcode (R.TaskManagementResponse r) n = refl
 header-opcode (R.LoginResponse r) n = refl
+header-opcode (R.DataIn r) n = refl
 header-opcode (R.LogoutResponse r) n = refl
+header-opcode (R.R2t r) n = refl
 header-opcode (R.Reject r) n = refl

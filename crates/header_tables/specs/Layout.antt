@@ -1,6 +1,7 @@
--- The tables of the twelve kinds, as RFC 7143 draws them, and which field of a PDU or a response each named value is.
--- Unnamed are the reserved bits, and what the RFC draws but the headers written don't name: o, u, ExpDataSN and Bidirectional Read
--- Residual Count of a SCSI Response, C and both versions of a Login Response, DataSN/R2TSN of a Reject.
+-- The tables of the fifteen kinds, as RFC 7143 draws them, and which field of a PDU or a response each named value is.
+-- Unnamed are the reserved bits, and what the RFC draws but the headers written don't name: o, u and Bidirectional Read Residual
+-- Count of a SCSI Response, C and both versions of a Login Response, O, U, S, status and residual count of a Data-In, DataSN/R2TSN of a
+-- Reject.
 use Prim.Native.Nat.{ℕ, _^_, _<_}
 use mathlib.Core.Bool.{Bool}
 use mathlib.Core.List.{List, [], _∷_}
@@ -14,21 +15,24 @@ use Rattle.response_header.specs.declared.Response.{Response}
 use Rattle.response_header.specs.declared.Response.the-variants as R
 
 pub data Kind : Type 0 where
-  nopOut scsiCommand taskManagement login logout snack : Kind
-  nopIn scsiResponse taskManagementResponse loginResponse logoutResponse reject : Kind
+  nopOut scsiCommand taskManagement login dataOut logout snack : Kind
+  nopIn scsiResponse taskManagementResponse loginResponse dataIn logoutResponse r2t reject : Kind
 
 abbrev pub opcode : Kind → ℕ
 opcode nopOut = 0x00
 opcode scsiCommand = 0x01
 opcode taskManagement = 0x02
 opcode login = 0x03
+opcode dataOut = 0x05
 opcode logout = 0x06
 opcode snack = 0x10
 opcode nopIn = 0x20
 opcode scsiResponse = 0x21
 opcode taskManagementResponse = 0x22
 opcode loginResponse = 0x23
+opcode dataIn = 0x25
 opcode logoutResponse = 0x26
+opcode r2t = 0x31
 opcode reject = 0x3f
 
 -- opcode, I, unnamed
@@ -68,6 +72,10 @@ tableOf taskManagement =
 tableOf login =
     request ∷ row 1 1 (field 2 ∷ field 2 ∷ unnamed 2 ∷ field 1 ∷ field 1 ∷ []) ∷ whole 2 1 ∷ whole 3 1 ∷ lengths
     (whole 8 6 ∷ whole 14 2 ∷ whole 16 4 ∷ whole 20 2 ∷ blank 22 2 ∷ whole 24 4 ∷ whole 28 4 ∷ blank 32 16 ∷ [])
+-- unnamed, F; LUN, ITT, TTT, ExpStatSN, DataSN, Buffer Offset
+tableOf dataOut =
+    bare ∷ plain ∷ blank 2 2 ∷ lengths
+    (whole 8 8 ∷ whole 16 4 ∷ whole 20 4 ∷ blank 24 4 ∷ whole 28 4 ∷ blank 32 4 ∷ whole 36 4 ∷ whole 40 4 ∷ blank 44 4 ∷ [])
 -- reason, 1; ITT, CID, CmdSN, ExpStatSN
 tableOf logout =
     request ∷ row 1 1 (field 7 ∷ field 1 ∷ []) ∷ blank 2 2 ∷ lengths
@@ -80,10 +88,10 @@ tableOf snack =
 tableOf nopIn =
     bare ∷ plain ∷ blank 2 2 ∷ lengths
     (whole 8 8 ∷ whole 16 4 ∷ whole 20 4 ∷ numbers (blank 36 12 ∷ []))
--- unnamed, U, O, unnamed, 1; response, status; ITT, SNACK Tag; residual count
+-- unnamed, U, O, unnamed, 1; response, status; ITT, SNACK Tag; ExpDataSN, residual count
 tableOf scsiResponse =
     bare ∷ row 1 1 (unnamed 1 ∷ field 1 ∷ field 1 ∷ unnamed 4 ∷ field 1 ∷ []) ∷ whole 2 1 ∷ whole 3 1 ∷ lengths
-    (blank 8 8 ∷ whole 16 4 ∷ whole 20 4 ∷ numbers (blank 36 8 ∷ whole 44 4 ∷ []))
+    (blank 8 8 ∷ whole 16 4 ∷ whole 20 4 ∷ numbers (whole 36 4 ∷ blank 40 4 ∷ whole 44 4 ∷ []))
 -- response; ITT
 tableOf taskManagementResponse =
     bare ∷ plain ∷ whole 2 1 ∷ blank 3 1 ∷ lengths
@@ -92,10 +100,18 @@ tableOf taskManagementResponse =
 tableOf loginResponse =
     bare ∷ row 1 1 (field 2 ∷ field 2 ∷ unnamed 3 ∷ field 1 ∷ []) ∷ blank 2 2 ∷ lengths
     (whole 8 6 ∷ whole 14 2 ∷ whole 16 4 ∷ blank 20 4 ∷ numbers (whole 36 1 ∷ whole 37 1 ∷ blank 38 10 ∷ []))
+-- unnamed, A, F; LUN, ITT, TTT; DataSN, Buffer Offset
+tableOf dataIn =
+    bare ∷ row 1 1 (unnamed 6 ∷ field 1 ∷ field 1 ∷ []) ∷ blank 2 2 ∷ lengths
+    (whole 8 8 ∷ whole 16 4 ∷ whole 20 4 ∷ numbers (whole 36 4 ∷ whole 40 4 ∷ blank 44 4 ∷ []))
 -- response; ITT; Time2Wait, Time2Retain
 tableOf logoutResponse =
     bare ∷ plain ∷ whole 2 1 ∷ blank 3 1 ∷ lengths
     (blank 8 8 ∷ whole 16 4 ∷ blank 20 4 ∷ numbers (blank 36 4 ∷ whole 40 2 ∷ whole 42 2 ∷ blank 44 4 ∷ []))
+-- LUN, ITT, TTT; R2TSN, Buffer Offset, Desired Data Transfer Length
+tableOf r2t =
+    bare ∷ plain ∷ blank 2 2 ∷ lengths
+    (whole 8 8 ∷ whole 16 4 ∷ whole 20 4 ∷ numbers (whole 36 4 ∷ whole 40 4 ∷ whole 44 4 ∷ []))
 -- reason; bytes 16 to 19
 tableOf reject =
     bare ∷ plain ∷ whole 2 1 ∷ blank 3 1 ∷ lengths
@@ -112,10 +128,11 @@ requestKind (Q.NopOut x) = nopOut
 requestKind (Q.ScsiCommand x) = scsiCommand
 requestKind (Q.TaskManagement x) = taskManagement
 requestKind (Q.Login x) = login
+requestKind (Q.DataOut x) = dataOut
 requestKind (Q.Logout x) = logout
 requestKind (Q.Snack x) = snack
 
--- byte 1's highest bit is 1 but in SCSI Command and Login, and TotalAHSLength is 0 but in SCSI Command
+-- byte 1's highest bit is 1 but in SCSI Command, Login and Data-Out, and TotalAHSLength is 0 but in SCSI Command
 abbrev fieldsFor : Pdu → Request → List ℕ
 fieldsFor p (Q.NopOut x) =
     opcode nopOut ∷ bitOf (p .immediate) ∷ 1 ∷ 0 ∷ p .«data_segment_length»
@@ -130,6 +147,9 @@ fieldsFor p (Q.TaskManagement x) =
 fieldsFor p (Q.Login x) =
     opcode login ∷ bitOf (p .immediate) ∷ x .nsg ∷ x .csg ∷ bitOf (x .continues) ∷ bitOf (x .transit) ∷ x .«version_max» ∷ x .«version_min»
     ∷ 0 ∷ p .«data_segment_length» ∷ x .isid ∷ x .tsih ∷ p .«initiator_task_tag» ∷ x .cid ∷ p .«cmd_sn» ∷ p .«exp_stat_sn» ∷ []
+fieldsFor p (Q.DataOut x) =
+    opcode dataOut ∷ bitOf (x .«is_final») ∷ 0 ∷ p .«data_segment_length»
+    ∷ p .lun ∷ p .«initiator_task_tag» ∷ x .«target_transfer_tag» ∷ p .«exp_stat_sn» ∷ x .«data_sn» ∷ x .«buffer_offset» ∷ []
 fieldsFor p (Q.Logout x) =
     opcode logout ∷ bitOf (p .immediate) ∷ x .reason ∷ 1 ∷ 0 ∷ p .«data_segment_length»
     ∷ p .«initiator_task_tag» ∷ x .cid ∷ p .«cmd_sn» ∷ p .«exp_stat_sn» ∷ []
@@ -145,7 +165,9 @@ responseKind (R.NopIn r) = nopIn
 responseKind (R.ScsiResponse r) = scsiResponse
 responseKind (R.TaskManagementResponse r) = taskManagementResponse
 responseKind (R.LoginResponse r) = loginResponse
+responseKind (R.DataIn r) = dataIn
 responseKind (R.LogoutResponse r) = logoutResponse
+responseKind (R.R2t r) = r2t
 responseKind (R.Reject r) = reject
 
 abbrev numbersThen : Numbers → List ℕ → List ℕ
@@ -156,14 +178,22 @@ responseFields (R.NopIn r) n =
     opcode nopIn ∷ 1 ∷ 0 ∷ r .«data_segment_length» ∷ r .lun ∷ r .«initiator_task_tag» ∷ r .«target_transfer_tag» ∷ numbersThen n []
 responseFields (R.ScsiResponse r) n =
     opcode scsiResponse ∷ bitOf (r .underflow) ∷ bitOf (r .overflow) ∷ 1 ∷ r .response ∷ r .status ∷ 0 ∷ r .«data_segment_length»
-    ∷ r .«initiator_task_tag» ∷ r .«snack_tag» ∷ numbersThen n (r .«residual_count» ∷ [])
+    ∷ r .«initiator_task_tag» ∷ r .«snack_tag» ∷ numbersThen n (r .«exp_data_sn» ∷ r .«residual_count» ∷ [])
 responseFields (R.TaskManagementResponse r) n =
     opcode taskManagementResponse ∷ 1 ∷ r .response ∷ 0 ∷ 0 ∷ r .«initiator_task_tag» ∷ numbersThen n []
 responseFields (R.LoginResponse r) n =
     opcode loginResponse ∷ r .nsg ∷ r .csg ∷ bitOf (r .transit) ∷ 0 ∷ r .«data_segment_length» ∷ r .isid ∷ r .tsih ∷ r .«initiator_task_tag»
     ∷ numbersThen n (r .«status_class» ∷ r .«status_detail» ∷ [])
+-- Data-In's StatSN is 0, whatever number is given
+responseFields (R.DataIn r) n =
+    opcode dataIn ∷ bitOf (r .acknowledge) ∷ bitOf (r .«is_final») ∷ 0 ∷ r .«data_segment_length» ∷ r .lun ∷ r .«initiator_task_tag»
+    ∷ r .«target_transfer_tag»
+    ∷ numbersThen (record { «stat_sn» = 0; «exp_cmd_sn» = n .«exp_cmd_sn»; «max_cmd_sn» = n .«max_cmd_sn» }) (r .«data_sn» ∷ r .«buffer_offset» ∷ [])
 responseFields (R.LogoutResponse r) n =
     opcode logoutResponse ∷ 1 ∷ r .response ∷ 0 ∷ 0 ∷ r .«initiator_task_tag» ∷ numbersThen n (r .time2wait ∷ r .time2retain ∷ [])
+responseFields (R.R2t r) n =
+    opcode r2t ∷ 1 ∷ 0 ∷ 0 ∷ r .lun ∷ r .«initiator_task_tag» ∷ r .«target_transfer_tag»
+    ∷ numbersThen n (r .«r2t_sn» ∷ r .«buffer_offset» ∷ r .«desired_data_transfer_length» ∷ [])
 responseFields (R.Reject r) n =
     opcode reject ∷ 1 ∷ r .reason ∷ 0 ∷ 48 ∷ 0xffffffff ∷ numbersThen n []
 
@@ -180,6 +210,7 @@ RequestFits (Q.TaskManagement x) =
 RequestFits (Q.Login x) =
     (x .csg < 2 ^ 2) × (x .nsg < 2 ^ 2) × (x .«version_max» < 2 ^ 8) × (x .«version_min» < 2 ^ 8)
     × (x .isid < 2 ^ 48) × (x .tsih < 2 ^ 16) × (x .cid < 2 ^ 16)
+RequestFits (Q.DataOut x) = (x .«target_transfer_tag» < 2 ^ 32) × (x .«data_sn» < 2 ^ 32) × (x .«buffer_offset» < 2 ^ 32)
 RequestFits (Q.Logout x) = (x .reason < 2 ^ 7) × (x .cid < 2 ^ 16)
 RequestFits (Q.Snack x) =
     (x .«snack_type» < 2 ^ 4) × (x .«target_transfer_tag» < 2 ^ 32) × (x .«beg_run» < 2 ^ 32) × (x .«run_length» < 2 ^ 32)
@@ -200,11 +231,17 @@ abbrev pub ResponseFits : Response → Type 0
 ResponseFits (R.NopIn r) = (r .lun < 2 ^ 64) × (r .«initiator_task_tag» < 2 ^ 32) × (r .«target_transfer_tag» < 2 ^ 32)
 ResponseFits (R.ScsiResponse r) =
     (r .response < 2 ^ 8) × (r .status < 2 ^ 8) × (r .«initiator_task_tag» < 2 ^ 32) × (r .«snack_tag» < 2 ^ 32) × (r .«residual_count» < 2 ^ 32)
+    × (r .«exp_data_sn» < 2 ^ 32)
 ResponseFits (R.TaskManagementResponse r) = (r .response < 2 ^ 8) × (r .«initiator_task_tag» < 2 ^ 32)
 ResponseFits (R.LoginResponse r) =
     (r .tsih < 2 ^ 16) × (r .«initiator_task_tag» < 2 ^ 32) × (r .«status_class» < 2 ^ 8) × (r .«status_detail» < 2 ^ 8)
+ResponseFits (R.DataIn r) =
+    (r .lun < 2 ^ 64) × (r .«initiator_task_tag» < 2 ^ 32) × (r .«target_transfer_tag» < 2 ^ 32) × (r .«data_sn» < 2 ^ 32) × (r .«buffer_offset» < 2 ^ 32)
 ResponseFits (R.LogoutResponse r) =
     (r .response < 2 ^ 8) × (r .«initiator_task_tag» < 2 ^ 32) × (r .time2wait < 2 ^ 16) × (r .time2retain < 2 ^ 16)
+ResponseFits (R.R2t r) =
+    (r .lun < 2 ^ 64) × (r .«initiator_task_tag» < 2 ^ 32) × (r .«target_transfer_tag» < 2 ^ 32) × (r .«r2t_sn» < 2 ^ 32)
+    × (r .«buffer_offset» < 2 ^ 32) × (r .«desired_data_transfer_length» < 2 ^ 32)
 ResponseFits (R.Reject r) = r .reason < 2 ^ 8
 
 abbrev pub NumbersFit : Numbers → Type 0

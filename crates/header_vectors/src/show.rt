@@ -3,6 +3,7 @@ use print::part;
 use print::put;
 use print::put_refused;
 use print::put_with;
+use request_header::DataOut;
 use request_header::Login;
 use request_header::Logout;
 use request_header::NopOut;
@@ -19,8 +20,9 @@ fn kind(r: Request) -> usize {
         Request::ScsiCommand(_) => 1,
         Request::TaskManagement(_) => 2,
         Request::Login(_) => 3,
-        Request::Logout(_) => 4,
-        Request::Snack(_) => 5,
+        Request::DataOut(_) => 4,
+        Request::Logout(_) => 5,
+        Request::Snack(_) => 6,
     }
 }
 
@@ -28,7 +30,7 @@ fn kind(r: Request) -> usize {
 fn common(p: Pdu) {
     let r = p.request;
     put(part(
-        b"nop-out|scsi-command|task-management|login|logout|snack",
+        b"nop-out|scsi-command|task-management|login|data-out|logout|snack",
         kind(r),
     ));
     put_with(
@@ -92,6 +94,18 @@ fn login(x: Login) {
     );
 }
 
+fn data_out(x: DataOut) {
+    put_with(
+        b" f=%d ttt=0x%4 datasn=0x%4 offset=0x%4",
+        &[
+            x.is_final as u64,
+            x.target_transfer_tag as u64,
+            x.data_sn as u64,
+            x.buffer_offset as u64,
+        ],
+    );
+}
+
 fn logout(x: Logout) {
     put_with(b" reason=%d cid=0x%2", &[x.reason as u64, x.cid as u64]);
 }
@@ -114,6 +128,7 @@ fn own(r: Request) {
         Request::ScsiCommand(x) => scsi_command(x),
         Request::TaskManagement(x) => task_management(x),
         Request::Login(x) => login(x),
+        Request::DataOut(x) => data_out(x),
         Request::Logout(x) => logout(x),
         Request::Snack(x) => snack(x),
     }

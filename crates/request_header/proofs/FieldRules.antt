@@ -47,6 +47,10 @@ module _ (m : Limits) (s : List ℕ) where
   unfolding fieldsOk sharedOk ruleOk pduOf requestOf
   login-rules = simp (or-true, or-false, and-true)
 
+  pub data-out-rules : fieldsOk m 0x05 s ≡ eqb (byte s 4) 0
+  unfolding fieldsOk sharedOk ruleOk pduOf requestOf
+  data-out-rules = simp (or-true, or-false, and-true)
+
   pub logout-rules : fieldsOk m 0x06 s ≡ (bit (byte s 1) 128 && eqb (byte s 4) 0) && (leb (byte s 1 % 128) 2 && eqb (dataLengthOf s) 0)
   unfolding fieldsOk sharedOk ruleOk pduOf requestOf
   logout-rules = simp (or-false, and-true)
@@ -156,9 +160,10 @@ module _ (m : Limits) (s : List ℕ) where
       (not (eqb (length s) (statedLength s))) (sharedOk (opcodeOf s) s && ruleOk m (pduOf (opcodeOf s) s) (pduOf (opcodeOf s) s .request))
       (pduOf (opcodeOf s) s) n e)
 
--- an opcode that is read, and is none of the five others, is that of SNACK
-pub known-last : (op : ℕ) → known op ≡ true → (op ≡ 0x00 → ⊥) → (op ≡ 0x01 → ⊥) → (op ≡ 0x02 → ⊥) → (op ≡ 0x03 → ⊥) → (op ≡ 0x06 → ⊥) → op ≡ 0x10
+-- an opcode that is read, and is none of the six others, is that of SNACK
+pub known-last : (op : ℕ) → known op ≡ true → (op ≡ 0x00 → ⊥) → (op ≡ 0x01 → ⊥) → (op ≡ 0x02 → ⊥) → (op ≡ 0x03 → ⊥) → (op ≡ 0x05 → ⊥) → (op ≡ 0x06 → ⊥)
+    → op ≡ 0x10
 unfolding known
-known-last op k a b c d e =
+known-last op k a b c d e g =
     let f : leb op 3 ≡ false = lt-leb op 3 (omega arith) in
-    eqb-true op 0x10 (rw (f, ne-eqb op 0x06 e) at k)
+    eqb-true op 0x10 (rw (f, ne-eqb op 0x05 e, ne-eqb op 0x06 g) at k)

@@ -1,5 +1,5 @@
 -- Reading: where each request has its fields, the field rules, and the refusals in their order.
--- The offsets are those of RFC 7143, sections 11.3, 11.5, 11.12, 11.14, 11.16 and 11.18.
+-- The offsets are those of RFC 7143, sections 11.3, 11.5, 11.7, 11.12, 11.14, 11.16 and 11.18.
 use Prim.Native.Nat.{ℕ, _+_, _*_, _/_, _%_}
 use mathlib.Core.Bool.{Bool, true, false, not, _&&_, _||_}
 use mathlib.Core.List.{List}
@@ -11,6 +11,7 @@ use Rattle.request_header.specs.declared.NopOut.{NopOut}
 use Rattle.request_header.specs.declared.ScsiCommand.{ScsiCommand}
 use Rattle.request_header.specs.declared.TaskManagement.{TaskManagement}
 use Rattle.request_header.specs.declared.Login.{Login}
+use Rattle.request_header.specs.declared.DataOut.{DataOut}
 use Rattle.request_header.specs.declared.Logout.{Logout}
 use Rattle.request_header.specs.declared.Snack.{Snack}
 use Rattle.request_header.specs.declared.Request.{Request}
@@ -68,6 +69,15 @@ loginOf s = record {
   cid = beAt s 20 2;
 }
 
+-- 0x05 Data-Out: F, Target Transfer Tag, DataSN, Buffer Offset
+abbrev pub dataOutOf : List ℕ → DataOut
+dataOutOf s = record {
+  «is_final» = bit (byte s 1) 128;
+  «target_transfer_tag» = beAt s 20 4;
+  «data_sn» = beAt s 36 4;
+  «buffer_offset» = beAt s 40 4;
+}
+
 -- 0x06 Logout: reason in the low seven bits, CID
 abbrev pub logoutOf : List ℕ → Logout
 logoutOf s = record { reason = byte s 1 % 128; cid = beAt s 20 2 }
@@ -81,15 +91,16 @@ snackOf s = record {
   «run_length» = beAt s 44 4;
 }
 
--- the six kinds that are read, by opcode
+-- the seven kinds that are read, by opcode
 unfoldable pub requestOf : ℕ → List ℕ → Request
 requestOf op s =
     pick (eqb op 0x00) (R.NopOut (nopOutOf s))
     (pick (eqb op 0x01) (R.ScsiCommand (scsiCommandOf s))
     (pick (eqb op 0x02) (R.TaskManagement (taskManagementOf s))
     (pick (eqb op 0x03) (R.Login (loginOf s))
+    (pick (eqb op 0x05) (R.DataOut (dataOutOf s))
     (pick (eqb op 0x06) (R.Logout (logoutOf s))
-    (R.Snack (snackOf s))))))
+    (R.Snack (snackOf s)))))))
 
 -- the low six bits of byte 0
 abbrev pub opcodeOf : List ℕ → ℕ
@@ -97,7 +108,7 @@ opcodeOf s = byte s 0 % 64
 
 -- an opcode that names a request read here
 unfoldable pub known : ℕ → Bool
-known op = (leb op 3 || eqb op 0x06) || eqb op 0x10
+known op = ((leb op 3 || eqb op 0x05) || eqb op 0x06) || eqb op 0x10
 
 -- DataSegmentLength (bytes 5 to 7)
 abbrev pub dataLengthOf : List ℕ → ℕ
@@ -111,14 +122,14 @@ dataStartOf s = 48 + byte s 4 * 4
 unfoldable pub statedLength : List ℕ → ℕ
 statedLength s = dataStartOf s + (dataLengthOf s + 3) / 4 * 4
 
--- the common fields together with one of six request kinds; "an absent common field is shown as 0":
--- SNACK has no I and no CmdSN, Login and Logout have no LUN
+-- the common fields together with one of seven request kinds; "an absent common field is shown as 0":
+-- Data-Out and SNACK have no I and no CmdSN, Login and Logout have no LUN
 unfoldable pub pduOf : ℕ → List ℕ → Pdu
 pduOf op s = record {
-  immediate = bit (byte s 0) 64 && not (eqb op 0x10);
+  immediate = bit (byte s 0) 64 && not (eqb op 0x05 || eqb op 0x10);
   lun = pick (eqb op 0x03 || eqb op 0x06) 0 (beAt s 8 8);
   «initiator_task_tag» = beAt s 16 4;
-  «cmd_sn» = pick (eqb op 0x10) 0 (beAt s 24 4);
+  «cmd_sn» = pick (eqb op 0x05 || eqb op 0x10) 0 (beAt s 24 4);
   «exp_stat_sn» = beAt s 28 4;
   request = requestOf op s;
   «data_start» = dataStartOf s;
@@ -127,9 +138,9 @@ pduOf op s = record {
 
 -- ---- the field rules
 
--- "Byte 1's highest bit must be set but in SCSI Command and Login." "Only in SCSI Command may TotalAHSLength differ from 0."
+-- "Byte 1's highest bit must be set but in SCSI Command and Login", and in Data-Out, where it is F. "Only in SCSI Command may TotalAHSLength differ from 0."
 unfoldable pub sharedOk : ℕ → List ℕ → Bool
-sharedOk op s = ((bit (byte s 1) 128 || eqb op 0x01) || eqb op 0x03) && (eqb (byte s 4) 0 || eqb op 0x01)
+sharedOk op s = (((bit (byte s 1) 128 || eqb op 0x01) || eqb op 0x03) || eqb op 0x05) && (eqb (byte s 4) 0 || eqb op 0x01)
 
 -- what a SNACK's type asks of its two tags. The type is 0 to 3. "Types 1 and 2 need ITT 0xffffffff.
 -- Types 0 and 1 need TTT 0xffffffff; type 3 needs neither 0 nor 0xffffffff."
@@ -150,6 +161,8 @@ ruleOk m p (R.ScsiCommand x) = leb (x .attribute) 4 && (x .«is_final» || x .«
 ruleOk m p (R.TaskManagement x) = (leb 1 (x .function) && leb (x .function) (m .«task_function»)) && eqb (p .«data_segment_length») 0
 -- "I set"
 ruleOk m p (R.Login x) = p .immediate
+-- of Data-Out no more is asked: F may be clear, and data may come
+ruleOk m p (R.DataOut x) = true
 -- "reason 0 to 2 ..; no data"
 ruleOk m p (R.Logout x) = leb (x .reason) 2 && eqb (p .«data_segment_length») 0
 ruleOk m p (R.Snack x) = snackOk (x .«snack_type») (p .«initiator_task_tag») (x .«target_transfer_tag»)

@@ -1,4 +1,4 @@
-// A read PDU: its common fields together with one of six requests. Fields are named as RFC 7143 names them.
+// A read PDU: its common fields together with one of seven requests. Fields are named as RFC 7143 names them.
 pub mod lengths;
 
 use refusal::Refusal;
@@ -43,6 +43,14 @@ pub struct Login {
     pub cid: u16,
 }
 
+pub struct DataOut {
+    // F of byte 1.
+    pub is_final: bool,
+    pub target_transfer_tag: u32,
+    pub data_sn: u32,
+    pub buffer_offset: u32,
+}
+
 pub struct Logout {
     pub reason: u8,
     pub cid: u16,
@@ -61,6 +69,7 @@ pub enum Request {
     ScsiCommand(ScsiCommand),
     TaskManagement(TaskManagement),
     Login(Login),
+    DataOut(DataOut),
     Logout(Logout),
     Snack(Snack),
 }

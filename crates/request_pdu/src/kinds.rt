@@ -3,6 +3,7 @@ use field::be;
 use field::be16;
 use field::be32;
 use field::flag;
+use request_header::DataOut;
 use request_header::Login;
 use request_header::Logout;
 use request_header::NopOut;
@@ -19,7 +20,7 @@ ghost use Prim.Native.Nat.{_≤_};
 ghost use lib.ListN.{length};
 ghost use lib.Dec.{eqb};
 ghost use Rattle.field.specs.Field.{beAt, pick};
-ghost use Rattle.request_header.specs.Request.{nopOutOf, scsiCommandOf, taskManagementOf, loginOf, logoutOf, snackOf, requestOf, pduOf};
+ghost use Rattle.request_header.specs.Request.{nopOutOf, scsiCommandOf, taskManagementOf, loginOf, dataOutOf, logoutOf, snackOf, requestOf, pduOf};
 
 fn nop_out(s: &[u8]) -> NopOut
     requires { ⌜ 48 ≤ length (now s) ⌝ }
@@ -77,6 +78,18 @@ fn login(s: &[u8]) -> Login
     }
 }
 
+fn data_out(s: &[u8]) -> DataOut
+    requires { ⌜ 48 ≤ length (now s) ⌝ }
+    ensures { λ r. ⌜ r ≡ dataOutOf (now (s .entry)) ⌝ }
+{
+    DataOut {
+        is_final: flag(s[1], 128),
+        target_transfer_tag: be32(s, 20),
+        data_sn: be32(s, 36),
+        buffer_offset: be32(s, 40),
+    }
+}
+
 fn logout(s: &[u8]) -> Logout
     requires { ⌜ 48 ≤ length (now s) ⌝ }
     ensures { λ r. ⌜ r ≡ logoutOf (now (s .entry)) ⌝ }
@@ -108,6 +121,7 @@ fn request(s: &[u8], op: u8) -> Request
         0x01 => Request::ScsiCommand(scsi_command(s)),
         0x02 => Request::TaskManagement(task_management(s)),
         0x03 => Request::Login(login(s)),
+        0x05 => Request::DataOut(data_out(s)),
         0x06 => Request::Logout(logout(s)),
         _ => Request::Snack(snack(s)),
     }
@@ -125,12 +139,16 @@ fn lun(s: &[u8], op: u8) -> u64
     }
 }
 
-// The CmdSN, which SNACK does not have.
+// The CmdSN, which Data-Out and SNACK do not have.
 fn cmd_sn(s: &[u8], op: u8) -> u32
     requires { ⌜ 48 ≤ length (now s) ⌝ }
-    ensures { λ r. ⌜ r ≡ pick (eqb op 0x10) 0 (beAt (now (s .entry)) 24 4) ⌝ }
+    ensures { λ r. ⌜ r ≡ pick (eqb op 0x05 || eqb op 0x10) 0 (beAt (now (s .entry)) 24 4) ⌝ }
 {
-    if op == 0x10 { 0 } else { be32(s, 24) }
+    if (op == 0x05) | (op == 0x10) {
+        0
+    } else {
+        be32(s, 24)
+    }
 }
 
 pub(crate) fn pdu(s: &[u8], op: u8) -> Pdu
@@ -139,7 +157,7 @@ pub(crate) fn pdu(s: &[u8], op: u8) -> Pdu
 {
     let r = request(s, op);
     Pdu {
-        immediate: flag(s[0], 64) & (op != 0x10),
+        immediate: flag(s[0], 64) & !((op == 0x05) | (op == 0x10)),
         lun: lun(s, op),
         initiator_task_tag: be32(s, 16),
         cmd_sn: cmd_sn(s, op),

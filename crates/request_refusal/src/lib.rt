@@ -5,6 +5,7 @@ use request_header::LengthAnswer;
 use request_header::Limits;
 use request_header::lengths::data_length;
 use request_header::lengths::data_start;
+use request_rules::data_out_ok;
 use request_rules::login_ok;
 use request_rules::logout_ok;
 use request_rules::nop_out_ok;
@@ -22,7 +23,7 @@ ghost use Rattle.request_header.specs.Verdicts.{fieldsOk, refusalBeforeField, f
 fn is_known(op: u8) -> bool
     ensures { λ r. ⌜ r ≡ known op ⌝ }
 {
-    (op <= 3) | (op == 0x06) | (op == 0x10)
+    (op <= 3) | (op == 0x05) | (op == 0x06) | (op == 0x10)
 }
 
 // The number of the refusal before FIELD: LENGTH under 48 bytes, OPCODE, TOOLONG, LENGTH; 0 for none. Every reader begins with it.
@@ -74,6 +75,7 @@ fn fields_ok(s: &[u8], limits: Limits) -> bool
         0x01 => scsi_command_ok(s),
         0x02 => task_management_ok(s, limits),
         0x03 => login_ok(s),
+        0x05 => data_out_ok(s),
         0x06 => logout_ok(s),
         _ => snack_ok(s),
     }

@@ -65,6 +65,15 @@ pub fn login_ok(s: &[u8]) -> bool
     (s[4] == 0) & flag(s[0], 64)
 }
 
+// F may be clear, and no other field is looked at.
+pub fn data_out_ok(s: &[u8]) -> bool
+    requires { ⌜ 48 ≤ length (now s) ⌝ }
+    ensures { λ r. ⌜ ((m : Limits) → r ≡ fieldsOk m 0x05 (now (s .entry))) ⌝ }
+{
+    let total_ahs_length = s[4];
+    total_ahs_length == 0
+}
+
 pub fn logout_ok(s: &[u8]) -> bool
     requires { ⌜ 48 ≤ length (now s) ⌝ }
     ensures { λ r. ⌜ ((m : Limits) → r ≡ fieldsOk m 0x06 (now (s .entry))) ⌝ }

@@ -8,12 +8,14 @@ use lib.Seq.{sets, paste, take-all}
 use Rattle.field.specs.Field.{bytesOf}
 use Rattle.field.proofs.Laws.{length-bytes, sets-append, paste-sets}
 use Rattle.response_header.specs.Response.{kindFields, headerBytes, weigh}
-use Rattle.response_fields.specs.WholeNumbers.{ownBytes}
+use Rattle.response_fields.specs.WholeNumbers.{statSN, ownBytes}
 use Rattle.response_header.specs.declared.NopIn.{NopIn}
 use Rattle.response_header.specs.declared.ScsiResponse.{ScsiResponse}
 use Rattle.response_header.specs.declared.TaskManagementResponse.{TaskManagementResponse}
 use Rattle.response_header.specs.declared.LoginResponse.{LoginResponse}
+use Rattle.response_header.specs.declared.DataIn.{DataIn}
 use Rattle.response_header.specs.declared.LogoutResponse.{LogoutResponse}
+use Rattle.response_header.specs.declared.R2t.{R2t}
 use Rattle.response_header.specs.declared.Reject.{Reject}
 use Rattle.response_header.specs.declared.Numbers.{Numbers}
 use Rattle.response_fields.specs.declared.OwnFields.{OwnFields}
@@ -40,7 +42,7 @@ nop-in-laid x n = refl
 pub scsi-response-laid : (x : ScsiResponse) (n : Numbers) → headerBytes (R.ScsiResponse x) n
     ≡ laid
     (bytes4 0x21 (0x80 + weigh (x .overflow) 0x04 + weigh (x .underflow) 0x02) (x .response) (x .status) ++ length4 (x .«data_segment_length»))
-    (bytesOf 8 0) (bytesOf 4 (x .«initiator_task_tag») ++ bytesOf 4 (x .«snack_tag»)) (bytesOf 4 0)
+    (bytesOf 8 0) (bytesOf 4 (x .«initiator_task_tag») ++ bytesOf 4 (x .«snack_tag»)) (bytesOf 4 (x .«exp_data_sn»))
     (bytesOf 4 0 ++ bytesOf 4 (x .«residual_count»)) n
 unfolding headerBytes kindFields bytesOf
 scsi-response-laid x n = refl
@@ -57,11 +59,25 @@ pub login-response-laid : (x : LoginResponse) (n : Numbers) → headerBytes (R.L
 unfolding headerBytes kindFields bytesOf
 login-response-laid x n = refl
 
+-- Data-In's StatSN is 0, whatever number is given
+pub data-in-laid : (x : DataIn) (n : Numbers) → headerBytes (R.DataIn x) n
+    ≡ laid (bytes4 0x25 (weigh (x .«is_final») 0x80 + weigh (x .acknowledge) 0x40) 0 0 ++ length4 (x .«data_segment_length»)) (bytesOf 8 (x .lun))
+    (bytesOf 4 (x .«initiator_task_tag») ++ bytesOf 4 (x .«target_transfer_tag»)) (bytesOf 4 (x .«data_sn»))
+    (bytesOf 4 (x .«buffer_offset») ++ bytesOf 4 0) (record { «stat_sn» = 0; «exp_cmd_sn» = n .«exp_cmd_sn»; «max_cmd_sn» = n .«max_cmd_sn» })
+unfolding headerBytes kindFields bytesOf
+data-in-laid x n = refl
+
 pub logout-response-laid : (x : LogoutResponse) (n : Numbers) → headerBytes (R.LogoutResponse x) n
     ≡ laid (bytes4 0x26 0x80 (x .response) 0 ++ bytesOf 4 0) (bytesOf 8 0) (bytesOf 4 (x .«initiator_task_tag») ++ bytesOf 4 0) (bytesOf 4 0)
     ((bytesOf 2 (x .time2wait) ++ bytesOf 2 (x .time2retain)) ++ bytesOf 4 0) n
 unfolding headerBytes kindFields bytesOf
 logout-response-laid x n = refl
+
+pub r2t-laid : (x : R2t) (n : Numbers) → headerBytes (R.R2t x) n
+    ≡ laid (bytes4 0x31 0x80 0 0 ++ bytesOf 4 0) (bytesOf 8 (x .lun)) (bytesOf 4 (x .«initiator_task_tag») ++ bytesOf 4 (x .«target_transfer_tag»))
+    (bytesOf 4 (x .«r2t_sn»)) (bytesOf 4 (x .«buffer_offset») ++ bytesOf 4 (x .«desired_data_transfer_length»)) n
+unfolding headerBytes kindFields bytesOf
+r2t-laid x n = refl
 
 pub reject-laid : (x : Reject) (n : Numbers) → headerBytes (R.Reject x) n
     ≡ laid (bytes4 0x3f 0x80 (x .reason) 0 ++ bytesOf 4 48) (bytesOf 8 0) (bytesOf 4 0xffffffff ++ bytesOf 4 0) (bytesOf 4 0) (bytesOf 8 0) n
@@ -97,7 +113,7 @@ six l at a b c d e f =
     rw (step l at 8 b p1 e1, step l at 16 c p2 e2, step l at 24 d p3 e3, step l at 32 e p4 e4) (step l at 40 f p5 e5)
 
 -- the groups are the header of these numbers
-grouped : (o : OwnFields) (n : Numbers) (d e : ℕ) → bytesOf 8 d ≡ bytesOf 4 (n .«stat_sn») ++ bytesOf 4 (n .«exp_cmd_sn») → bytesOf 8 e
+grouped : (o : OwnFields) (n : Numbers) (d e : ℕ) → bytesOf 8 d ≡ bytesOf 4 (statSN o n) ++ bytesOf 4 (n .«exp_cmd_sn») → bytesOf 8 e
     ≡ bytesOf 4 (n .«max_cmd_sn») ++ bytesOf 4 (o .«at_36»)
     → ((((bytesOf 8 (o .«at_0») ++ bytesOf 8 (o .«at_8»)) ++ bytesOf 8 (o .«at_16»)) ++ bytesOf 8 d) ++ bytesOf 8 e) ++ bytesOf 8 (o .«at_40»)
     ≡ ownBytes o n
@@ -110,7 +126,7 @@ length-own o n = simp (length-append, length-bytes) refl
 
 -- six stores write a header
 pub placed : (l : List ℕ) (at : ℕ) (o : OwnFields) (n : Numbers) (d e : ℕ) → at + 48 ≤ length l
-    → bytesOf 8 d ≡ bytesOf 4 (n .«stat_sn») ++ bytesOf 4 (n .«exp_cmd_sn») → bytesOf 8 e ≡ bytesOf 4 (n .«max_cmd_sn») ++ bytesOf 4 (o .«at_36»)
+    → bytesOf 8 d ≡ bytesOf 4 (statSN o n) ++ bytesOf 4 (n .«exp_cmd_sn») → bytesOf 8 e ≡ bytesOf 4 (n .«max_cmd_sn») ++ bytesOf 4 (o .«at_36»)
     → sets
     (sets (sets (sets (sets (sets l at (bytesOf 8 (o .«at_0»))) (at + 8) (bytesOf 8 (o .«at_8»))) (at + 16) (bytesOf 8 (o .«at_16»)))
     (at + 24) (bytesOf 8 d)) (at + 32) (bytesOf 8 e))

@@ -5,9 +5,11 @@ use field::low_three;
 use field::pair;
 use field::six_two;
 use field::two;
+use response_header::DataIn;
 use response_header::LoginResponse;
 use response_header::LogoutResponse;
 use response_header::NopIn;
+use response_header::R2t;
 use response_header::Reject;
 use response_header::Response;
 use response_header::ScsiResponse;
@@ -19,11 +21,13 @@ ghost use Rattle.response_header.specs.declared.Response.the-variants as R;
 ghost use Rattle.response_header.specs.Response.{weigh, headerBytes};
 ghost use Rattle.response_fields.specs.WholeNumbers.{ownBytes};
 
-// A response's own fields, in whole numbers by the byte that each starts at. Between byte 23 and byte 36 stand the three numbers.
+// A response's own fields, in whole numbers by the byte that each starts at. Between byte 23 and byte 36 stand the three numbers,
+// the first of which is 0 where has_stat_sn is false: in Data-In.
 pub struct OwnFields {
     pub at_0: u64,
     pub at_8: u64,
     pub at_16: u64,
+    pub has_stat_sn: bool,
     pub at_36: u32,
     pub at_40: u64,
 }
@@ -44,6 +48,7 @@ fn nop_in(x: NopIn) -> OwnFields
         at_0: pair(first, length),
         at_8: x.lun,
         at_16: pair(x.initiator_task_tag, x.target_transfer_tag),
+        has_stat_sn: true,
         at_36: 0,
         at_40: 0,
     }
@@ -59,7 +64,8 @@ fn scsi_response(x: ScsiResponse) -> OwnFields
         at_0: pair(first, length),
         at_8: 0,
         at_16: pair(x.initiator_task_tag, x.snack_tag),
-        at_36: 0,
+        has_stat_sn: true,
+        at_36: x.exp_data_sn,
         at_40: pair(0, x.residual_count),
     }
 }
@@ -72,6 +78,7 @@ fn task_management_response(x: TaskManagementResponse) -> OwnFields
         at_0: pair(first, 0),
         at_8: 0,
         at_16: pair(x.initiator_task_tag, 0),
+        has_stat_sn: true,
         at_36: 0,
         at_40: 0,
     }
@@ -95,8 +102,25 @@ fn login_response(x: LoginResponse) -> OwnFields
         at_0: pair(first, length),
         at_8: six_two(x.isid, x.tsih),
         at_16: pair(x.initiator_task_tag, 0),
+        has_stat_sn: true,
         at_36: four(x.status_class, x.status_detail, 0, 0),
         at_40: 0,
+    }
+}
+
+fn data_in(x: DataIn) -> OwnFields
+    ensures { λ r. ⌜ ((n : Numbers) → headerBytes (R.DataIn x) n ≡ ownBytes r n) ⌝ }
+{
+    let flags = weight(x.is_final, 0x80) + weight(x.acknowledge, 0x40);
+    let first = four(0x25, flags, 0, 0);
+    let length = low_three(x.data_segment_length);
+    OwnFields {
+        at_0: pair(first, length),
+        at_8: x.lun,
+        at_16: pair(x.initiator_task_tag, x.target_transfer_tag),
+        has_stat_sn: false,
+        at_36: x.data_sn,
+        at_40: pair(x.buffer_offset, 0),
     }
 }
 
@@ -109,8 +133,23 @@ fn logout_response(x: LogoutResponse) -> OwnFields
         at_0: pair(first, 0),
         at_8: 0,
         at_16: pair(x.initiator_task_tag, 0),
+        has_stat_sn: true,
         at_36: 0,
         at_40: pair(times, 0),
+    }
+}
+
+fn r2t(x: R2t) -> OwnFields
+    ensures { λ r. ⌜ ((n : Numbers) → headerBytes (R.R2t x) n ≡ ownBytes r n) ⌝ }
+{
+    let first = four(0x31, 0x80, 0, 0);
+    OwnFields {
+        at_0: pair(first, 0),
+        at_8: x.lun,
+        at_16: pair(x.initiator_task_tag, x.target_transfer_tag),
+        has_stat_sn: true,
+        at_36: x.r2t_sn,
+        at_40: pair(x.buffer_offset, x.desired_data_transfer_length),
     }
 }
 
@@ -122,6 +161,7 @@ fn reject(x: Reject) -> OwnFields
         at_0: pair(first, 48),
         at_8: 0,
         at_16: pair(NONE, 0),
+        has_stat_sn: true,
         at_36: 0,
         at_40: 0,
     }
@@ -136,7 +176,9 @@ pub fn own_fields(r: Response) -> OwnFields
         Response::ScsiResponse(x) => scsi_response(x),
         Response::TaskManagementResponse(x) => task_management_response(x),
         Response::LoginResponse(x) => login_response(x),
+        Response::DataIn(x) => data_in(x),
         Response::LogoutResponse(x) => logout_response(x),
+        Response::R2t(x) => r2t(x),
         Response::Reject(x) => reject(x),
     }
 }

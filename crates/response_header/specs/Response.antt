@@ -1,5 +1,5 @@
 -- Writing: where each response has its fields, and when a response is refused. What becomes of the lent bytes is in response_writer/specs/Writing.
--- The offsets are those of RFC 7143, sections 11.4, 11.6, 11.13, 11.15, 11.17 and 11.19.
+-- The offsets are those of RFC 7143, sections 11.4, 11.6, 11.7, 11.8, 11.13, 11.15, 11.17 and 11.19.
 use Prim.Native.Nat.{ℕ, _+_, _*_}
 use mathlib.Core.Bool.{Bool, true, false, not, _&&_, _||_}
 use mathlib.Core.List.{List, [], _∷_}
@@ -12,7 +12,9 @@ use Rattle.response_header.specs.declared.NopIn.{NopIn}
 use Rattle.response_header.specs.declared.ScsiResponse.{ScsiResponse}
 use Rattle.response_header.specs.declared.TaskManagementResponse.{TaskManagementResponse}
 use Rattle.response_header.specs.declared.LoginResponse.{LoginResponse}
+use Rattle.response_header.specs.declared.DataIn.{DataIn}
 use Rattle.response_header.specs.declared.LogoutResponse.{LogoutResponse}
+use Rattle.response_header.specs.declared.R2t.{R2t}
 use Rattle.response_header.specs.declared.Reject.{Reject}
 use Rattle.response_header.specs.declared.Numbers.{Numbers}
 use Rattle.response_header.specs.declared.Response.{Response}
@@ -59,7 +61,7 @@ nopInFields r =
     ∷ field 20 4 (r .«target_transfer_tag»)
     ∷ []
 
--- 0x21 SCSI Response: O or U (bits 0x04 and 0x02); response, status, data length, ITT, SNACK tag, residual
+-- 0x21 SCSI Response: O or U (bits 0x04 and 0x02); response, status, data length, ITT, SNACK tag, ExpDataSN, residual
 abbrev pub scsiResponseFields : ScsiResponse → List Field
 scsiResponseFields r =
     field 0 1 0x21
@@ -69,6 +71,7 @@ scsiResponseFields r =
     ∷ field 5 3 (r .«data_segment_length»)
     ∷ field 16 4 (r .«initiator_task_tag»)
     ∷ field 20 4 (r .«snack_tag»)
+    ∷ field 36 4 (r .«exp_data_sn»)
     ∷ field 44 4 (r .«residual_count»)
     ∷ []
 
@@ -94,6 +97,20 @@ loginResponseFields r =
     ∷ field 37 1 (r .«status_detail»)
     ∷ []
 
+-- 0x25 Data-In: F and A (bits 0x80 and 0x40); data length, LUN, ITT, TTT, DataSN, Buffer Offset. "StatSN is 0", whatever number is given
+abbrev pub dataInFields : DataIn → List Field
+dataInFields r =
+    field 0 1 0x25
+    ∷ field 1 1 (weigh (r .«is_final») 0x80 + weigh (r .acknowledge) 0x40)
+    ∷ field 5 3 (r .«data_segment_length»)
+    ∷ field 8 8 (r .lun)
+    ∷ field 16 4 (r .«initiator_task_tag»)
+    ∷ field 20 4 (r .«target_transfer_tag»)
+    ∷ field 24 4 0
+    ∷ field 36 4 (r .«data_sn»)
+    ∷ field 40 4 (r .«buffer_offset»)
+    ∷ []
+
 -- 0x26 Logout Response: response, ITT, Time2Wait, Time2Retain
 abbrev pub logoutResponseFields : LogoutResponse → List Field
 logoutResponseFields r =
@@ -103,6 +120,19 @@ logoutResponseFields r =
     ∷ field 16 4 (r .«initiator_task_tag»)
     ∷ field 40 2 (r .time2wait)
     ∷ field 42 2 (r .time2retain)
+    ∷ []
+
+-- 0x31 R2T: LUN, ITT, TTT, R2TSN, Buffer Offset, Desired Data Transfer Length
+abbrev pub r2tFields : R2t → List Field
+r2tFields r =
+    field 0 1 0x31
+    ∷ field 1 1 0x80
+    ∷ field 8 8 (r .lun)
+    ∷ field 16 4 (r .«initiator_task_tag»)
+    ∷ field 20 4 (r .«target_transfer_tag»)
+    ∷ field 36 4 (r .«r2t_sn»)
+    ∷ field 40 4 (r .«buffer_offset»)
+    ∷ field 44 4 (r .«desired_data_transfer_length»)
     ∷ []
 
 -- 0x3f Reject: reason, data length 48, bytes 16 to 19 0xff
@@ -120,7 +150,9 @@ kindFields (R.NopIn r) = nopInFields r
 kindFields (R.ScsiResponse r) = scsiResponseFields r
 kindFields (R.TaskManagementResponse r) = taskManagementResponseFields r
 kindFields (R.LoginResponse r) = loginResponseFields r
+kindFields (R.DataIn r) = dataInFields r
 kindFields (R.LogoutResponse r) = logoutResponseFields r
+kindFields (R.R2t r) = r2tFields r
 kindFields (R.Reject r) = rejectFields r
 
 -- the 48 bytes; "what isn't named is 0"
@@ -135,7 +167,9 @@ dataLengthIn (R.NopIn r) = r .«data_segment_length»
 dataLengthIn (R.ScsiResponse r) = r .«data_segment_length»
 dataLengthIn (R.TaskManagementResponse r) = 0
 dataLengthIn (R.LoginResponse r) = r .«data_segment_length»
+dataLengthIn (R.DataIn r) = r .«data_segment_length»
 dataLengthIn (R.LogoutResponse r) = 0
+dataLengthIn (R.R2t r) = 0
 dataLengthIn (R.Reject r) = 48
 
 -- O and U not both; no value too wide for its place; no NSG other than 0 with T clear
@@ -145,7 +179,9 @@ fieldsFit (R.ScsiResponse r) = not (r .overflow && r .underflow)
 fieldsFit (R.TaskManagementResponse r) = true
 fieldsFit (R.LoginResponse r) =
     ((ltb (r .csg) 4 && ltb (r .nsg) 4) && ltb (r .isid) 0x1_0000_0000_0000) && (r .transit || eqb (r .nsg) 0)
+fieldsFit (R.DataIn r) = true
 fieldsFit (R.LogoutResponse r) = true
+fieldsFit (R.R2t r) = true
 fieldsFit (R.Reject r) = true
 
 -- "A data length above 8,192 is TOOLONG": above the limit, and whatever the limit, of 2^24 or more, for which its three bytes have no room

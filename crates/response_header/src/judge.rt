@@ -14,7 +14,9 @@ fn data_length_in(r: Response) -> u32
         Response::ScsiResponse(x) => x.data_segment_length,
         Response::TaskManagementResponse(_) => 0,
         Response::LoginResponse(x) => x.data_segment_length,
+        Response::DataIn(x) => x.data_segment_length,
         Response::LogoutResponse(_) => 0,
+        Response::R2t(_) => 0,
         Response::Reject(_) => 48,
     }
 }
@@ -30,7 +32,9 @@ fn fields_fit(r: Response) -> bool
         Response::LoginResponse(x) => {
             (x.csg < 4) & (x.nsg < 4) & (x.isid < 0x1_0000_0000_0000) & (x.transit | (x.nsg == 0))
         }
+        Response::DataIn(_) => true,
         Response::LogoutResponse(_) => true,
+        Response::R2t(_) => true,
         Response::Reject(_) => true,
     }
 }

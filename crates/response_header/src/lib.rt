@@ -1,4 +1,4 @@
-// The six responses that are written, the three numbers that each carries, and whether a response can be written.
+// The eight responses that are written, the three numbers that each carries, and whether a response can be written.
 pub mod judge;
 
 use refusal::Refusal;
@@ -22,6 +22,7 @@ pub struct ScsiResponse {
     pub initiator_task_tag: u32,
     pub snack_tag: u32,
     pub residual_count: u32,
+    pub exp_data_sn: u32,
 }
 
 pub struct TaskManagementResponse {
@@ -42,11 +43,32 @@ pub struct LoginResponse {
     pub status_detail: u8,
 }
 
+pub struct DataIn {
+    // F and A of byte 1.
+    pub is_final: bool,
+    pub acknowledge: bool,
+    pub data_segment_length: u32,
+    pub lun: u64,
+    pub initiator_task_tag: u32,
+    pub target_transfer_tag: u32,
+    pub data_sn: u32,
+    pub buffer_offset: u32,
+}
+
 pub struct LogoutResponse {
     pub response: u8,
     pub initiator_task_tag: u32,
     pub time2wait: u16,
     pub time2retain: u16,
+}
+
+pub struct R2t {
+    pub lun: u64,
+    pub initiator_task_tag: u32,
+    pub target_transfer_tag: u32,
+    pub r2t_sn: u32,
+    pub buffer_offset: u32,
+    pub desired_data_transfer_length: u32,
 }
 
 pub struct Reject {
@@ -58,7 +80,9 @@ pub enum Response {
     ScsiResponse(ScsiResponse),
     TaskManagementResponse(TaskManagementResponse),
     LoginResponse(LoginResponse),
+    DataIn(DataIn),
     LogoutResponse(LogoutResponse),
+    R2t(R2t),
     Reject(Reject),
 }
 

@@ -13,6 +13,7 @@ ghost use mathlib.Core.Path.{_≡_};
 ghost use Prim.Native.Nat.{_+_, _≤_};
 ghost use lib.ListN.{length};
 ghost use lib.Seq.{paste};
+ghost use Rattle.field.specs.Field.{pick};
 ghost use Rattle.response_fields.specs.WholeNumbers.{ownBytes};
 ghost use Rattle.response_writer.specs.Writing.{Outcome, answered, writing};
 
@@ -21,12 +22,20 @@ pub enum WriteAnswer {
     Refused(Refusal),
 }
 
+// The StatSN that stands in a header: the next one, or 0 in Data-In, which has none.
+fn stat_sn_in(has_stat_sn: bool, stat_sn: u32) -> u32
+    ensures { λ r. ⌜ r ≡ pick «has_stat_sn» «stat_sn» 0 ⌝ }
+{
+    if has_stat_sn { stat_sn } else { 0 }
+}
+
 // Writes the header into the 48 bytes from at on, in six stores.
 pub fn place(out: &mut [u8], at: usize, o: OwnFields, n: Numbers)
     requires { ⌜ at + 48 ≤ length (now out) ⌝ }
     ensures { λ _. ⌜ now (out .exit) ≡ paste (now (out .entry)) at (ownBytes o n) 48 ⌝ }
 {
-    let numbers = pair(n.stat_sn, n.exp_cmd_sn);
+    let stat_sn = stat_sn_in(o.has_stat_sn, n.stat_sn);
+    let numbers = pair(stat_sn, n.exp_cmd_sn);
     let last = pair(n.max_cmd_sn, o.at_36);
     put(out, at, o.at_0);
     put(out, at + 8, o.at_8);

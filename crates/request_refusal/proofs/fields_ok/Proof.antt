@@ -19,15 +19,22 @@ returns-4 : tie.Need-returns-4
 returns-4 c = rw (c .before .match .keys4) (c .login-ok .ensures _)
 
 returns-5 : tie.Need-returns-5
-returns-5 c = rw (c .before .match .keys5) (c .logout-ok .ensures _)
+returns-5 c = rw (c .before .match .keys5) (c .data-out-ok .ensures _)
 
 returns-6 : tie.Need-returns-6
-returns-6 c =
+returns-6 c = rw (c .before .match .keys6) (c .logout-ok .ensures _)
+
+returns-7 : tie.Need-returns-7
+returns-7 c =
     let n = c .before .match .rest in
-    rw (known-last _ (c .before .before .before .before .pre .1) (n .0 .0 .0 .0 .1) (n .0 .0 .0 .1) (n .0 .0 .1) (n .0 .1) (n .1)) (c .snack-ok .ensures _)
+    rw
+    (known-last _ (c .before .before .before .before .pre .1)
+    (n .0 .0 .0 .0 .0 .1) (n .0 .0 .0 .0 .1) (n .0 .0 .0 .1) (n .0 .0 .1) (n .0 .1) (n .1))
+    (c .snack-ok .ensures _)
 
 pub fields-ok-spec : {M : Type 1} → statement M
 fields-ok-spec =
     tie.close (tie.spec
     (λ c. search needs) (λ c κs. search needs) (λ c κs. search needs) (λ c κs. search needs) (λ c κs. search needs)
-    (λ c κs. search needs) (λ c κs. search needs) returns returns-2 returns-3 returns-4 returns-5 returns-6)
+    (λ c κs. search needs) (λ c κs. search needs) (λ c κs. search needs)
+    returns returns-2 returns-3 returns-4 returns-5 returns-6 returns-7)

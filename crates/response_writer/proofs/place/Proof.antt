@@ -10,7 +10,8 @@ returns c =
     let b15 = b10 .before .before .before .before .before in
     let b20 = b15 .before .before .before .before .before in
     let b25 = b20 .before .before .before .before .before in
-    let a = b25 .before .before .args in
+    let a = b25 .before .before .before .args in
+    let numbers = rw (b25 .before .stat-sn-in .ensures) at (b25 .pair .ensures) in
     rw (
       c .before .before .put6 .ensures,
       b5 .before .put5 .ensures,
@@ -19,11 +20,11 @@ returns c =
       b15 .before .before .before .put2 .ensures,
       b20 .before .before .put .ensures,
     )
-    (placed (a .out .now) (a .at) (a .o) (a .n) _ _ (b25 .before .before .pre) (b25 .pair .ensures) (b20 .before .before .before .before .pair2 .ensures))
+    (placed (a .out .now) (a .at) (a .o) (a .n) _ _ (b25 .before .before .before .pre) numbers (b20 .before .before .before .before .pair2 .ensures))
 
 pub place-spec : {M : Type 1} → statement M
 place-spec =
     tie.close (tie.spec
-    (λ c κs. search needs) (λ c κs. search needs) (λ c κs. search needs) (λ c. search needs) (λ c κs. search needs)
+    (λ c κs. search needs) (λ c κs. search needs) (λ c κs. search needs) (λ c κs. search needs) (λ c. search needs) (λ c κs. search needs)
     (λ c. search needs) (λ c κs. search needs) (λ c. search needs) (λ c κs. search needs) (λ c. search needs)
     (λ c κs. search needs) (λ c. search needs) (λ c κs. search needs) (λ c. search needs) returns)

@@ -1,4 +1,3 @@
-use borrow.Author.Tests.{ne-eqb}
 use borrow.Author.Needs.{needs}
 use Rattle.request_pdu.proofs.kinds.cmd_sn.Statement.{statement}
 use Rattle.request_pdu.proofs.kinds.cmd_sn.Tie as tie
@@ -7,7 +6,7 @@ returns : tie.Need-returns
 returns c = rw (c .if1 .taken)
 
 returns-2 : tie.Need-returns-2
-returns-2 c = rw (ne-eqb _ _ (c .before .if1 .left)) (c .be32 .ensures)
+returns-2 c = rw (c .before .if1 .left) (c .be32 .ensures)
 
 pub cmd-sn-spec : {M : Type 1} → statement M
 cmd-sn-spec = tie.close (tie.spec

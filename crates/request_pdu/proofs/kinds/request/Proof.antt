@@ -22,16 +22,29 @@ returns-4 c = rw (c .before .match .keys4, c .login .ensures)
 
 returns-5 : tie.Need-returns-5
 unfolding requestOf
-returns-5 c = rw (c .before .match .keys5, c .logout .ensures)
+returns-5 c = rw (c .before .match .keys5, c .data-out .ensures)
 
 returns-6 : tie.Need-returns-6
 unfolding requestOf
-returns-6 c =
+returns-6 c = rw (c .before .match .keys6, c .logout .ensures)
+
+returns-7 : tie.Need-returns-7
+unfolding requestOf
+returns-7 c =
     let n = c .before .match .rest in
-    simp (ne-eqb _ _ (n .0 .0 .0 .0 .1), ne-eqb _ _ (n .0 .0 .0 .1), ne-eqb _ _ (n .0 .0 .1), ne-eqb _ _ (n .0 .1), ne-eqb _ _ (n .1), c .snack .ensures)
+    let e = n .0 .0 .0 in
+    simp (
+      ne-eqb _ _ (e .0 .0 .1),
+      ne-eqb _ _ (e .0 .1),
+      ne-eqb _ _ (e .1),
+      ne-eqb _ _ (n .0 .0 .1),
+      ne-eqb _ _ (n .0 .1),
+      ne-eqb _ _ (n .1),
+      c .snack .ensures,
+    )
 
 pub request-spec : {M : Type 1} → statement M
 request-spec =
     tie.close (tie.spec
     (λ c κs. search needs) (λ c κs. search needs) (λ c κs. search needs) (λ c κs. search needs) (λ c κs. search needs)
-    (λ c κs. search needs) returns returns-2 returns-3 returns-4 returns-5 returns-6)
+    (λ c κs. search needs) (λ c κs. search needs) returns returns-2 returns-3 returns-4 returns-5 returns-6 returns-7)

@@ -8,5 +8,5 @@ pub fields-fit-spec : {M : Type 1} → statement M
 fields-fit-spec =
     tie.close (tie.spec
     (λ c. search needs) (λ c. search needs) (λ c. search needs) (λ c. search needs) (λ c. search needs)
-    (λ c. search needs) (λ c. search needs) (λ c. cc) (λ c. search needs) (λ c. cc) (λ c. search needs)
-    (λ c. search needs))
+    (λ c. search needs) (λ c. search needs) (λ c. search needs) (λ c. search needs) (λ c. cc) (λ c. search needs)
+    (λ c. cc) (λ c. search needs) (λ c. search needs) (λ c. search needs) (λ c. search needs))

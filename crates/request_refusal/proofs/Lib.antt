@@ -1,0 +1,2 @@
+-- Laws for who reads one kind of request only.
+pub mod OneKind
