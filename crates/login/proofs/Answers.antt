@@ -145,17 +145,19 @@ pub reading-status : (m : Limits) (s : List ℕ) (f : Refusal) → Read.answerOf
 reading-status m s f e = status-go m s f (sym e)
 
 -- A request that is no Login, by its variant's place.
-not-third : (n : ℕ) → OneOf (0 ∷ 1 ∷ 2 ∷ 4 ∷ 5 ∷ []) n → n ≡ 3 → ⊥
+not-third : (n : ℕ) → OneOf (0 ∷ 1 ∷ 2 ∷ 4 ∷ 5 ∷ 6 ∷ []) n → n ≡ 3 → ⊥
 not-third n k e =
-    ⊎-elim (λ a. omega arith) (λ b. ⊎-elim (λ a. omega arith) (λ c. ⊎-elim (λ a. omega arith) (λ d. ⊎-elim (λ a. omega arith) (λ f. omega arith) d) c) b) k
+    ⊎-elim (λ a. omega arith) (λ b. ⊎-elim (λ a. omega arith) (λ c. ⊎-elim (λ a. omega arith) (λ d. ⊎-elim (λ a. omega arith)
+    (λ f. ⊎-elim (λ a. omega arith) (λ h. omega arith) f) d) c) b) k
 
 -- FIELD for a PDU that is no Login, and for a new handle 0.
 module _ (l : LoginBook) (d : List ℕ) (live new : ℕ) (ours g t : List ℕ) where
-  kind-none : (r : Request) → OneOf (0 ∷ 1 ∷ 2 ∷ 4 ∷ 5 ∷ []) (tagOf the-type r) → refuse l 3 g t ≡ kindStep r l d live new ours g t
+  kind-none : (r : Request) → OneOf (0 ∷ 1 ∷ 2 ∷ 4 ∷ 5 ∷ 6 ∷ []) (tagOf the-type r) → refuse l 3 g t ≡ kindStep r l d live new ours g t
   kind-none (R.NopOut x) k = refl
   kind-none (R.ScsiCommand x) k = refl
   kind-none (R.TaskManagement x) k = refl
   kind-none (R.Login q) k = absurd (not-third 3 k refl)
+  kind-none (R.DataOut x) k = refl
   kind-none (R.Logout x) k = refl
   kind-none (R.Snack x) k = refl
 
@@ -165,6 +167,7 @@ module _ (l : LoginBook) (d : List ℕ) (live new : ℕ) (ours g t : List ℕ) w
   kind-zero (R.ScsiCommand x) z = refl
   kind-zero (R.TaskManagement x) z = refl
   kind-zero (R.Login q) z = sym (here (eqb new 0) _ _ (eq-eqb new 0 z))
+  kind-zero (R.DataOut x) z = refl
   kind-zero (R.Logout x) z = refl
   kind-zero (R.Snack x) z = refl
 
@@ -187,7 +190,7 @@ module _ (new : ℕ) (pdu : List ℕ) where
       lent = λ q. false-true q;
     }
 
-    pub read-other : OneOf (0 ∷ 1 ∷ 2 ∷ 4 ∷ 5 ∷ []) (tagOf the-type (p .request)) → ReadAs new pdu (N.Refused F.Field)
+    pub read-other : OneOf (0 ∷ 1 ∷ 2 ∷ 4 ∷ 5 ∷ 6 ∷ []) (tagOf the-type (p .request)) → ReadAs new pdu (N.Refused F.Field)
     read-other k = record {
       other = refl;
       step = λ l live ours g t. rw (← e) (kind-none l (dataOf pdu p) live new ours g t (p .request) k);

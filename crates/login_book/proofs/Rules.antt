@@ -43,6 +43,7 @@ kind-other (R.NopOut x) d e = let z : _≡_ {A = ℕ} 3 6 = cc in omega arith
 kind-other (R.ScsiCommand x) d e = let z : _≡_ {A = ℕ} 3 6 = cc in omega arith
 kind-other (R.TaskManagement x) d e = let z : _≡_ {A = ℕ} 3 6 = cc in omega arith
 kind-other (R.Login x) d e = let z : _≡_ {A = ℕ} 3 6 = cc in omega arith
+kind-other (R.DataOut x) d e = let z : _≡_ {A = ℕ} 3 6 = cc in omega arith
 kind-other (R.Logout x) d e = let z : _≡_ {A = ℕ} 3 6 = cc in omega arith
 kind-other (R.Snack x) d e = let z : _≡_ {A = ℕ} 3 6 = cc in omega arith
 
@@ -75,6 +76,7 @@ module _ (b : LoginBook) (c : Call) where
   kind-is (R.ScsiCommand x) d = refl
   kind-is (R.TaskManagement x) d = refl
   kind-is (R.Login x) d = refl
+  kind-is (R.DataOut x) d = refl
   kind-is (R.Logout x) d = refl
   kind-is (R.Snack x) d = refl
 
