@@ -1,0 +1,1 @@
+pub mod R2T
