@@ -2,15 +2,17 @@
 -- 32 in a row lie in different slots.
 use Prim.Native.Nat.{ℕ, zero, suc, _+_, _-_, _*_, _%_, _^_, _≤_, _<_}
 use mathlib.Core.Path.{_≡_, refl, sym, ap, _∙_, subst}
-use mathlib.Core.Bool.{true, false, _&&_}
+use mathlib.Core.Bool.{Bool, true, false, _&&_}
 use mathlib.Core.List.{List, [], _∷_, _++_}
 use native.Mathlib.Nat.{zero-add}
 use native.Mathlib.Omega.{arith}
 use native.Mathlib.Decide.{ℕ-discrete, decLt}
-use lib.ListN.{length, getD, set, drop, length-append, length-drop, length-set}
+use lib.ListN.{length, getD, set, drop, length-append, length-drop, length-set, List·getD-append}
 use lib.Dec.{eqb}
 use borrow.Author.Tests.{lt-ltb, le-ltb, le-leb, lt-leb, eq-eqb, ne-eqb}
-use Rattle.field.specs.Field.{bytesOf}
+use Rattle.field.specs.Field.{pick, byte, bytesOf}
+use Rattle.task_book.specs.declared.Numbering.{Numbering}
+use Rattle.task_book.specs.Steps.{expDataSN}
 use Rattle.refusal.specs.Refusal.{number}
 use Rattle.response_header.specs.Response.{refusalIn, headerBytes}
 use Rattle.refusal.specs.declared.Refusal.{Refusal}
@@ -22,7 +24,7 @@ use Rattle.store.specs.Slot.{inSlot}
 use Rattle.store.proofs.Slots.{slot-same, slot-other}
 use Rattle.ledger.specs.declared.Ledger.{Ledger}
 use Rattle.ledger.specs.declared.Renewal.{Renewal}
-use Rattle.ledger.specs.Book.{Status, LedgerBook, oldest, place, isStatus, isFull, refused, notStored, stored, sending, headerFor, sendBytes, sent, released, run, runAt, runOf, renewed, Found, missing, found, lookup, statusOf}
+use Rattle.ledger.specs.Book.{Status, LedgerBook, oldest, place, isStatus, isFull, refused, notStored, stored, sending, headerFor, sendBytes, sent, released, run, runAt, runOf, withTag, renewedFor, renewed, Found, missing, found, lookup, statusOf}
 use Rattle.ledger.specs.declared.Sent.the-variants as S
 use Rattle.ledger.specs.declared.Run.the-variants as R
 use Rattle.ledger.specs.Answer.{resent, running, runAnswer}
@@ -213,14 +215,62 @@ sets-front a x i (v ∷ vs) l =
     ap (λ (r : List ℕ). sets r (suc i) vs) (set-append-left a x i v (omega arith))
     ∙ sets-front (set a i v) x (suc i) vs (rw length-set (omega arith))
 
+-- the SNACK tag and the ExpDataSN stand in the first 48 bytes
+pub length-tagged : (h : List ℕ) (t : ℕ) → length (withTag h t) ≡ length h
+unfolding withTag
+length-tagged h t = go (eqb t 0)
+  where
+    go : (z : Bool) → length (pick z h (sets h 20 (bytesOf 4 t))) ≡ length h
+    go true = refl
+    go false = length-sets h 20 (bytesOf 4 t)
+
+tagged-front : (a x : List ℕ) (t : ℕ) → length a ≡ 48 → withTag (a ++ x) t ≡ withTag a t ++ x
+unfolding withTag
+tagged-front a x t l = go (eqb t 0)
+  where
+    go : (z : Bool) → pick z (a ++ x) (sets (a ++ x) 20 (bytesOf 4 t)) ≡ pick z a (sets a 20 (bytesOf 4 t)) ++ x
+    go true = refl
+    go false = sets-front a x 20 (bytesOf 4 t) (omega (arith, length-bytes 4 t))
+
+pub length-renewed-for : (n : Numbering) (h : List ℕ) → length (renewedFor n h) ≡ length h
+unfolding renewedFor
+length-renewed-for n h = go (eqb (byte h 0) 0x21)
+  where
+    t : List ℕ
+    t = withTag h (n .«snack_tag»)
+
+    e : List ℕ
+    e = bytesOf 4 (expDataSN n (byte h 2))
+
+    go : (z : Bool) → length (pick z (sets t 36 e) h) ≡ length h
+    go true = length-sets t 36 e ∙ length-tagged h (n .«snack_tag»)
+    go false = refl
+
+pub renewed-front : (n : Numbering) (a x : List ℕ) → length a ≡ 48 → renewedFor n (a ++ x) ≡ renewedFor n a ++ x
+unfolding renewedFor
+renewed-front n a x l =
+    rw (List·getD-append a x 0 0 (omega arith), List·getD-append a x 0 2 (omega arith), tagged-front a x (n .«snack_tag») l) (go (eqb (byte a 0) 0x21))
+  where
+    t : List ℕ
+    t = withTag a (n .«snack_tag»)
+
+    e : List ℕ
+    e = bytesOf 4 (expDataSN n (byte a 2))
+
+    go : (z : Bool) → pick z (sets (t ++ x) 36 e) (a ++ x) ≡ pick z (sets t 36 e) a ++ x
+    go true = sets-front t x 36 e (omega (arith, length-bytes 4 (expDataSN n (byte a 2)), length-tagged a (n .«snack_tag»)))
+    go false = refl
+
 pub renew : (a x : List ℕ) (n : Renewal) → length a ≡ 48
-    → sets (sets (a ++ x) 28 (bytesOf 4 (n .«exp_cmd_sn»))) 32 (bytesOf 4 (n .«max_cmd_sn»)) ≡ renewed a n ++ x
+    → sets (sets (renewedFor (n .numbering) a ++ x) 28 (bytesOf 4 (n .«exp_cmd_sn»))) 32 (bytesOf 4 (n .«max_cmd_sn»)) ≡ renewed a n ++ x
 unfolding renewed
 renew a x n l =
     let e = n .«exp_cmd_sn» in
     let m = n .«max_cmd_sn» in
-    ap (λ (r : List ℕ). sets r 32 (bytesOf 4 m)) (sets-front a x 28 (bytesOf 4 e) (omega (arith, length-bytes 4 e)))
-    ∙ sets-front (sets a 28 (bytesOf 4 e)) x 32 (bytesOf 4 m) (omega (arith, length-bytes 4 m, length-sets a 28 (bytesOf 4 e)))
+    let r = renewedFor (n .numbering) a in
+    let z = length-renewed-for (n .numbering) a in
+    ap (λ (r : List ℕ). sets r 32 (bytesOf 4 m)) (sets-front r x 28 (bytesOf 4 e) (omega (arith, z, length-bytes 4 e)))
+    ∙ sets-front (sets r 28 (bytesOf 4 e)) x 32 (bytesOf 4 m) (omega (arith, z, length-bytes 4 m, length-sets r 28 (bytesOf 4 e)))
 
 -- two numbers written as one
 pub renew-both : (l : List ℕ) (e m : ℕ) → sets l 28 (bytesOf 4 e ++ bytesOf 4 m) ≡ sets (sets l 28 (bytesOf 4 e)) 32 (bytesOf 4 m)
@@ -261,7 +311,10 @@ resend-found c l ss out b n k x g ek ln h =
 
 pub length-renewed : (h : List ℕ) (x : Renewal) → length (renewed h x) ≡ length h
 unfolding renewed
-length-renewed h x = length-sets (sets h 28 (bytesOf 4 (x .«exp_cmd_sn»))) 32 (bytesOf 4 (x .«max_cmd_sn»)) ∙ length-sets h 28 (bytesOf 4 (x .«exp_cmd_sn»))
+length-renewed h x =
+    let r = renewedFor (x .numbering) h in
+    length-sets (sets r 28 (bytesOf 4 (x .«exp_cmd_sn»))) 32 (bytesOf 4 (x .«max_cmd_sn»)) ∙ length-sets r 28 (bytesOf 4 (x .«exp_cmd_sn»))
+    ∙ length-renewed-for (x .numbering) h
 
 -- ---- an output with another header
 
@@ -282,27 +335,32 @@ pub same-header : (b : LedgerBook) (r : Response) (n e m : ℕ) → n ≡ b .nex
 unfolding headerFor
 same-header b r n e m q = rw q
 
-module _ (b : LedgerBook) (longest : ℕ) (r : Response) where
-  pub sending-refused : (f : Refusal) → number f ≡ refusalIn longest r → sending b longest r ≡ refused (number f)
+module _ (b : LedgerBook) (longest : ℕ) (due : Bool) (r : Response) where
+  pub sending-refused : (f : Refusal) → number f ≡ refusalIn longest r → sending b longest due r ≡ refused (number f)
   unfolding sending
   sending-refused f e = rw (← e, number-positive f)
 
   module _ (fits : 0 ≡ refusalIn longest r) where
-    pub sending-unstored : isStatus r ≡ false → sending b longest r ≡ notStored (b .next)
+    pub sending-undue : due ≡ false → sending b longest due r ≡ refused 3
     unfolding sending
-    sending-unstored s = rw (← fits, s)
+    sending-undue d = rw (← fits, d)
 
-    pub sending-full : isStatus r ≡ true → 32 ≤ length (b .held) → sending b longest r ≡ refused 10
-    unfolding sending isFull
-    sending-full s l = rw (← fits, s, le-leb 32 (length (b .held)) l)
+    module _ (d : due ≡ true) where
+      pub sending-unstored : isStatus r ≡ false → sending b longest due r ≡ notStored (b .next)
+      unfolding sending
+      sending-unstored s = rw (← fits, d, s)
 
-    pub sending-stored : isStatus r ≡ true → length (b .held) < 32 → sending b longest r ≡ stored (b .next)
-    unfolding sending isFull
-    sending-stored s l = rw (← fits, s, lt-leb 32 (length (b .held)) l)
+      pub sending-full : isStatus r ≡ true → 32 ≤ length (b .held) → sending b longest due r ≡ refused 10
+      unfolding sending isFull
+      sending-full s l = rw (← fits, d, s, le-leb 32 (length (b .held)) l)
 
-module _ (c : ℕ) (l : Ledger) (ticket : ℕ) (r : Response) (longest e m : ℕ) (out : List ℕ) (ss : Statuses) where
-  pub sends-refused : (f : Refusal) → ((b : LedgerBook) → Agrees c l ss b → sending b longest r ≡ refused (number f))
-      → Sends c l ticket r longest e m out ss (S.Refused f) out ss
+      pub sending-stored : isStatus r ≡ true → length (b .held) < 32 → sending b longest due r ≡ stored (b .next)
+      unfolding sending isFull
+      sending-stored s l = rw (← fits, d, s, lt-leb 32 (length (b .held)) l)
+
+module _ (c : ℕ) (l : Ledger) (ticket : ℕ) (r : Response) (longest : ℕ) (due : Bool) (e m : ℕ) (out : List ℕ) (ss : Statuses) where
+  pub sends-refused : (f : Refusal) → ((b : LedgerBook) → Agrees c l ss b → sending b longest due r ≡ refused (number f))
+      → Sends c l ticket r longest due e m out ss (S.Refused f) out ss
   unfolding sendBytes
   sends-refused f q = record {
     meets = λ b g. record { answer = sym (q b g); bytes = rw (q b g); agrees = tt };
@@ -319,8 +377,8 @@ module _ (c : ℕ) (l : Ledger) (ticket : ℕ) (r : Response) (longest e m : ℕ
     right : (b : LedgerBook) → Agrees c l ss b → h ≡ headerFor b r e m
     right b g = is ∙ same-header b r (l .next) e m (g .next)
 
-    pub sends-unstored : isStatus r ≡ false → ((b : LedgerBook) → Agrees c l ss b → sending b longest r ≡ notStored (b .next))
-        → Sends c l ticket r longest e m out ss (S.NotStored (l .next)) (h ++ drop 48 out) ss
+    pub sends-unstored : isStatus r ≡ false → ((b : LedgerBook) → Agrees c l ss b → sending b longest due r ≡ notStored (b .next))
+        → Sends c l ticket r longest due e m out ss (S.NotStored (l .next)) (h ++ drop 48 out) ss
     unfolding sendBytes
     sends-unstored s q = record {
       meets = λ b g. record {
@@ -337,8 +395,8 @@ module _ (c : ℕ) (l : Ledger) (ticket : ℕ) (r : Response) (longest e m : ℕ
     }
 
     pub sends-stored : (l' : Ledger) (ss' : Statuses) → isStatus r ≡ true → Stored c l ticket h ss l' ss'
-        → ((b : LedgerBook) → Agrees c l ss b → sending b longest r ≡ stored (b .next))
-        → Sends c l ticket r longest e m out ss (S.Stored (l .next) l') (h ++ drop 48 out) ss'
+        → ((b : LedgerBook) → Agrees c l ss b → sending b longest due r ≡ stored (b .next))
+        → Sends c l ticket r longest due e m out ss (S.Stored (l .next) l') (h ++ drop 48 out) ss'
     unfolding sendBytes
     sends-stored l' ss' s k q = record {
       meets = λ b g. record {

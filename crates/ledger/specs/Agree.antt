@@ -2,7 +2,7 @@
 -- of the book; and the contracts of its functions.
 use Prim.Native.Nat.{ℕ, _+_, _*_, _%_, _^_, _<_, _≤_}
 use mathlib.Core.Path.{_≡_}
-use mathlib.Core.Bool.{true, false}
+use mathlib.Core.Bool.{Bool, true, false}
 use mathlib.Core.List.{List, _++_}
 use lib.ListN.{length, getD, set, take, drop}
 use lib.Seq.{paste}
@@ -87,15 +87,16 @@ SentStays c t r (S.Refused f) o o' ss ss' = (o' ≡ o) × (ss' ≡ ss)
 SentStays c t r (S.NotStored n) o o' ss ss' = (isStatus r ≡ false) × (ss' ≡ ss)
 SentStays c t r (S.Stored n l) o o' ss ss' = (isStatus r ≡ true) × Puts c n t (take headerSize o') ss ss'
 
-pub record SendsAt (c ticket : ℕ) (r : Response) (longest e m : ℕ) (out : List ℕ) (x : Sent) (out' : List ℕ) (ss' : Statuses) (b : LedgerBook) : Type 0 where
-  pub answer : sentOf x ≡ sending b longest r
-  pub bytes : out' ≡ sendBytes (sending b longest r) (headerFor b r e m) out
+pub record SendsAt (c ticket : ℕ) (r : Response) (longest : ℕ) (due : Bool) (e m : ℕ) (out : List ℕ) (x : Sent) (out' : List ℕ) (ss' : Statuses)
+    (b : LedgerBook) : Type 0 where
+  pub answer : sentOf x ≡ sending b longest due r
+  pub bytes : out' ≡ sendBytes (sending b longest due r) (headerFor b r e m) out
   pub agrees : SentAgrees c x ss' (sent b (record { header = headerFor b r e m; ticket = ticket }))
 
 -- Of any ledger the output keeps its length, and its bytes from 48 on.
-pub record Sends (c : ℕ) (l : Ledger) (ticket : ℕ) (r : Response) (longest e m : ℕ) (out : List ℕ) (ss : Statuses) (x : Sent) (out' : List ℕ)
-    (ss' : Statuses) : Type 0 where
-  pub meets : (b : LedgerBook) → Agrees c l ss b → SendsAt c ticket r longest e m out x out' ss' b
+pub record Sends (c : ℕ) (l : Ledger) (ticket : ℕ) (r : Response) (longest : ℕ) (due : Bool) (e m : ℕ) (out : List ℕ) (ss : Statuses) (x : Sent)
+    (out' : List ℕ) (ss' : Statuses) : Type 0 where
+  pub meets : (b : LedgerBook) → Agrees c l ss b → SendsAt c ticket r longest due e m out x out' ss' b
   pub others : (k : ℕ) (n : Ledger) (b : LedgerBook) → (k ≡ c → ⊥) → Agrees k n ss b → Agrees k n ss' b
   pub headers-size : length (ss .headers) ≡ ledgerSlots * headerSize → length (ss' .headers) ≡ ledgerSlots * headerSize
   pub tickets-size : length (ss .tickets) ≡ ledgerSlots → length (ss' .tickets) ≡ ledgerSlots

@@ -1,16 +1,18 @@
 -- Read beside paper 01, 'The status ledger': what one open connection holds, and what each call answers.
 use Prim.Native.Nat.{ℕ, zero, suc, _+_, _-_, _%_, _^_}
-use mathlib.Core.Bool.{Bool, true, not, _&&_}
+use mathlib.Core.Bool.{Bool, true, false, not, _&&_}
 use mathlib.Core.List.{List, [], _∷_, _++_}
 use lib.Dec.{ltb, leb, eqb}
 use lib.ListN.{length, drop}
 use lib.Seq.{sets}
-use Rattle.field.specs.Field.{pick, bytesOf}
+use Rattle.field.specs.Field.{pick, byte, bytesOf}
 use Rattle.field.specs.Field as Field
 use Rattle.response_header.specs.Response.{refusalIn, headerBytes}
 use Rattle.store.specs.Slot.{headerSize}
 use Rattle.response_header.specs.declared.Response.{Response}
 use Rattle.response_header.specs.declared.Response.the-variants as R
+use Rattle.task_book.specs.declared.Numbering.{Numbering}
+use Rattle.task_book.specs.Steps.{expDataSN}
 use Rattle.ledger.specs.declared.Renewal.{Renewal}
 
 -- "FULL: 32 statuses unacknowledged".
@@ -46,13 +48,15 @@ place b n = (n + (2 ^ 32 - oldest b)) % 2 ^ 32
 
 -- ---- send
 
--- "A NOP-In with ITT 0xffffffff .. doesn't count as a status sent": every other response does.
+-- "A NOP-In with ITT 0xffffffff .. doesn't count as a status sent", nor does an R2T, nor a Data-In, whose "StatSN is 0": every other response does.
 abbrev pub isStatus : Response → Bool
 isStatus (R.NopIn x) = not (eqb (x .«initiator_task_tag») Field.none)
 isStatus (R.ScsiResponse x) = true
 isStatus (R.TaskManagementResponse x) = true
 isStatus (R.LoginResponse x) = true
+isStatus (R.DataIn x) = false
 isStatus (R.LogoutResponse x) = true
+isStatus (R.R2t x) = false
 isStatus (R.Reject x) = true
 
 unfoldable pub isFull : LedgerBook → Bool
@@ -64,11 +68,12 @@ pub data Sending : Type 0 where
   notStored : (number : ℕ) → Sending
   stored : (number : ℕ) → Sending
 
--- Writing's refusals, with the longest data written, then the NOP-In that is "never FULL", then FULL.
-unfoldable pub sending : LedgerBook → (longest : ℕ) → Response → Sending
-sending b longest r =
+-- Writing's refusals, with the longest data written, then FIELD where the response isn't one that is due, then the NOP-In that is
+-- "never FULL", then FULL.
+unfoldable pub sending : LedgerBook → (longest : ℕ) → (due : Bool) → Response → Sending
+sending b longest due r =
     pick (eqb (refusalIn longest r) 0)
-    (pick (isStatus r) (pick (isFull b) (refused 10) (stored (b .next))) (notStored (b .next)))
+    (pick due (pick (isStatus r) (pick (isFull b) (refused 10) (stored (b .next))) (notStored (b .next))) (refused 3))
     (refused (refusalIn longest r))
 
 -- "with the next StatSN and both window numbers".
@@ -127,6 +132,14 @@ lookup (s ∷ l) (suc k) = lookup l k
 unfoldable pub statusOf : LedgerBook → ℕ → Found
 statusOf b n = lookup (b .held) (place b n)
 
--- "It differs from the sent header in bytes 28 to 35 only, which hold the current numbers."
+-- "a resend of one .. takes it, and the tag of a type 3 SNACK since, from the record given": the ExpDataSN of a SCSI Response (0x21) is the
+-- record's, by the response code that was sent; its SNACK tag too, where a type 3 came (the record's isn't 0).
+unfoldable pub withTag : List ℕ → (tag : ℕ) → List ℕ
+withTag h t = pick (eqb t 0) h (sets h 20 (bytesOf 4 t))
+
+unfoldable pub renewedFor : Numbering → List ℕ → List ℕ
+renewedFor n h = pick (eqb (byte h 0) 0x21) (sets (withTag h (n .«snack_tag»)) 36 (bytesOf 4 (expDataSN n (byte h 2)))) h
+
+-- "It differs from the sent header in bytes 28 to 35 only, which hold the current numbers", and of a SCSI Response "in bytes 20 to 23 and 28 to 39".
 unfoldable pub renewed : List ℕ → Renewal → List ℕ
-renewed h x = sets (sets h 28 (bytesOf 4 (x .«exp_cmd_sn»))) 32 (bytesOf 4 (x .«max_cmd_sn»))
+renewed h x = sets (sets (renewedFor (x .numbering) h) 28 (bytesOf 4 (x .«exp_cmd_sn»))) 32 (bytesOf 4 (x .«max_cmd_sn»))

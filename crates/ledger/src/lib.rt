@@ -3,6 +3,7 @@
 // the slots from 32 * c on, and a status lies in the slot of its number modulo 32. The calls stand above: `ledger_send`,
 // and `ledger_held` for what is held.
 use refusal::Refusal;
+use task_book::Numbering;
 ghost use Rattle.ledger.specs.Agree.{Opened};
 
 // The statuses that a ledger can hold, and its slots.
@@ -26,6 +27,8 @@ pub struct Ledger {
 pub struct Renewal {
     pub exp_cmd_sn: u32,
     pub max_cmd_sn: u32,
+    // The numbering of the task whose record is given, for a SCSI Response: its ExpDataSN, and the tag of a SNACK of type 3.
+    pub numbering: Numbering,
 }
 
 pub enum Sent {

@@ -21,13 +21,15 @@ ghost use Rattle.ledger.specs.Book.{statuses, connections, isStatus};
 ghost use Rattle.ledger.specs.Agree.{statusesIn, Stored, Sends};
 
 // Sends a response on connection c: its header, with the next StatSN and both window numbers, into the first 48 bytes
-// of out, and header and ticket into the ledger. Writing's refusals, with the longest data written, come first, then FULL.
+// of out, and header and ticket into the ledger. Writing's refusals, with the longest data written, come first, then FIELD
+// where the response isn't one that is due, then FULL.
 pub fn send(
     l: Ledger,
     c: usize,
     ticket: u32,
     r: Response,
     max_data: u32,
+    due: bool,
     exp_cmd_sn: u32,
     max_cmd_sn: u32,
     out: &mut [u8],
@@ -35,13 +37,16 @@ pub fn send(
     tickets: &mut [u32; LEDGER_SLOTS],
 ) -> Sent
     requires { ⌜ (c < connections) × (headerSize ≤ length (now out)) ⌝ }
-    ensures { λ x. ⌜ Sends c l ticket r «max_data» «exp_cmd_sn» «max_cmd_sn»
+    ensures { λ x. ⌜ Sends c l ticket r «max_data» due «exp_cmd_sn» «max_cmd_sn»
         (now (out .entry)) (statusesIn (now (headers .entry)) (now (tickets .entry)))
         x (now (out .exit)) (statusesIn (now (headers .exit)) (now (tickets .exit))) ⌝ }
 {
     match response_header::judge::judge(r, max_data) {
         Judgement::Refused(f) => Sent::Refused(f),
         Judgement::Fits => {
+            if !due {
+                return Sent::Refused(Refusal::Field);
+            }
             let n = Numbers {
                 stat_sn: l.next,
                 exp_cmd_sn: exp_cmd_sn,
@@ -65,7 +70,7 @@ pub fn send(
     }
 }
 
-// Whether a response is a status: all are but the NOP-In with ITT 0xffffffff.
+// Whether a response is a status: all are but the NOP-In with ITT 0xffffffff, Data-In and R2T.
 fn is_status(r: Response) -> bool
     ensures { λ x. ⌜ x ≡ isStatus r ⌝ }
 {
@@ -74,7 +79,9 @@ fn is_status(r: Response) -> bool
         Response::ScsiResponse(_) => true,
         Response::TaskManagementResponse(_) => true,
         Response::LoginResponse(_) => true,
+        Response::DataIn(_) => false,
         Response::LogoutResponse(_) => true,
+        Response::R2t(_) => false,
         Response::Reject(_) => true,
     }
 }

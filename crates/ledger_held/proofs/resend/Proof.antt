@@ -6,9 +6,9 @@ use native.Mathlib.Omega.{arith}
 use lib.ListN.{drop, length, length-drop}
 use lib.Seq.{length-take-le}
 use Rattle.store.specs.Slot.{inSlot}
-use Rattle.ledger.specs.Book.{renewed}
+use Rattle.ledger.specs.Book.{renewedFor, renewed}
 use Rattle.ledger.specs.Agree.{statusesIn}
-use Rattle.ledger.proofs.Laws.{renew-both, renew, length-renewed, headed-size, headed-rest, resend-missing, resend-found}
+use Rattle.ledger.proofs.Laws.{renew-both, renewed-front, renew, length-renewed, headed-size, headed-rest, resend-missing, resend-found}
 use borrow.Author.Needs.{needs}
 use Rattle.ledger_held.proofs.resend.Statement.{statement}
 use Rattle.ledger_held.proofs.resend.Tie as tie
@@ -28,9 +28,13 @@ returns c =
       out-rest = refl;
     }
 
+renew-for-requires : tie.Need-renew-for-requires
+renew-for-requires c κs = search needs
+
 returns-2 : tie.Need-returns-2
 returns-2 c =
-    let read = c .before .before .before .before .before .before .before .before in
+    let renewing = c .before .before .before .before .before .before .before .before in
+    let read = renewing .before .before .before .before in
     let held = read .before .before .before .if1 .left in
     let p = read .before .before .before .before .before .place-of in
     let a = read .before .before .before .before .before .before .before .args in
@@ -39,8 +43,10 @@ returns-2 c =
     let h = inSlot (a .headers .now) slot in
     let sz = size (a .headers .now) slot (omega arith) in
     let got : read .get .last .1 .1 .0 ≡ h ++ drop 48 (a .out .now) = unfold inSlot in read .get .ensures in
+    let for : renewing .renew-for .last .1 .0 ≡ renewedFor (a .renewal .numbering) h ++ drop 48 (a .out .now) =
+    rw (renewing .renew-for .ensures, got) (renewed-front (a .renewal .numbering) h (drop 48 (a .out .now)) sz) in
     let is : c .before .before .before .put .last .0 ≡ renewed h (a .renewal) ++ drop 48 (a .out .now) =
-    rw (c .before .before .before .put .ensures, c .before .before .before .before .before .pair .ensures, renew-both, got)
+    rw (c .before .before .before .put .ensures, c .before .before .before .before .before .pair .ensures, renew-both, for)
     (renew h (drop 48 (a .out .now)) (a .renewal) sz) in
     let fits = length-renewed h (a .renewal) ∙ sz in
     rw is (record {
@@ -54,5 +60,5 @@ pub resend-spec : {M : Type 1} → statement M
 resend-spec =
     tie.close (tie.spec
     (λ c κs. search needs) returns (λ c. search needs) (λ c. search needs) (λ c. search needs) (λ c. search needs)
-    (λ c κs. search needs) (λ c κs. search needs) (λ c κs. search needs) (λ c. search needs) (λ c. search needs)
+    (λ c κs. search needs) renew-for-requires (λ c κs. search needs) (λ c κs. search needs) (λ c. search needs) (λ c. search needs)
     (λ c. search needs) returns-2)
