@@ -14,7 +14,10 @@ use lib.ListN.{length, getD, set, drop, length-append, length-drop, List·getD-e
 use lib.Seq.{sets, sets-eq, length-sets, length-take-le, take-at, getD-set-other, getD-append-add, getD-drop}
 use Rattle.field.specs.Field.{pick, byte, bit, bytesOf}
 use Rattle.request_header.specs.Request.{readPdu}
-use Rattle.response_header.specs.Response.{refusalIn}
+use Rattle.request_header.specs.Request as Read
+use Rattle.response_header.specs.Response.{refusalIn, tooLong}
+use Rattle.task_book.specs.Record.{Record}
+use Rattle.task_book.specs.Steps as T
 use Rattle.request_header.specs.declared.Limits.{Limits}
 use Rattle.response_header.specs.declared.Response.{Response}
 use Rattle.field.proofs.Laws.{length-bytes}
@@ -24,7 +27,7 @@ use Rattle.ledger.specs.Book as L
 use Rattle.ledger.specs.declared.Renewal.{Renewal}
 use Rattle.book.specs.declared.Given.{Given}
 use Rattle.book.specs.declared.Opening.{Opening}
-use Rattle.book.specs.Book.{Offered, denied, atOnce, numbered, offeredAs, OpenConnection, withLedger, openedBy, Connection, closed, live, Book, share, freshBook, Outputs, outputs, noOutputs, written, Choice, Call, offer, take, logout, opening, send, acknowledge, snack, resend, ask, windowNumbers, holder, refused, immediate, window, fromWindow, sent, acknowledged, run, resent, told, numbers, holding, replyTo, Step, step, connOf, withWindow, withConn, byWindow, onOpen, onConnection, lending, offerBy, loggedOut, logoutBy, openAt, sendAs, sendBy, acknowledgeBy, runStep, Asked, asked, deniedRun, from, snackBy, renewal, shown, resendBy, cmdSN, bookStep}
+use Rattle.book.specs.Book.{Offered, denied, atOnce, numbered, offeredAs, OpenConnection, withLedger, openedBy, Connection, closed, live, Book, share, freshBook, Outputs, outputs, noOutputs, written, Choice, Call, offer, take, logout, opening, send, acknowledge, snack, resend, Transfer, dataIn, r2t, dataOut, dataSnack, transfer, ask, windowNumbers, holder, refused, immediate, window, fromWindow, sent, acknowledged, run, resent, told, numbers, holding, replyTo, Step, step, connOf, withWindow, withConn, byWindow, onOpen, onConnection, lending, offerBy, loggedOut, logoutBy, openAt, sendAs, sendBy, acknowledgeBy, runStep, Asked, asked, deniedRun, from, snackBy, renewal, shown, resendBy, isDue, completed, movedBy, dataOutBy, dataSnackBy, transferBy, cmdSN, bookStep}
 use Rattle.book.specs.Book.{nextStatSN, nextIs, nextOf}
 use Rattle.book.specs.Events.{event, Turn, turn, booked, bookRun}
 use Rattle.book.specs.Effects.{WindowEffect, handsOut, ConnectionEffect, opens, closes, sends, acknowledges, windowEffect, Past, nothingDone, andThen}
@@ -32,7 +35,8 @@ use Rattle.book.specs.Commands.{same, handOuts, next, distance, amongNex
 use Rattle.book.specs.Statuses.{isOpen, lastSent, acknowledgedSince}
 use Rattle.book.specs.Demand.{Takes, Offers, Shows, Resends, Holds, TellsNext, NotRefused, isNumbered, Sentences, Each, Demand3}
 use Rattle.response_header.proofs.Writing.{length-header}
-use Rattle.book.proofs.Small.{apart, share-fits, IsOffered, is-denied, is-immediate, is-numbered, offered-is, offered-number}
+use Rattle.book.proofs.Renewed.{length-renewed, renewed-other, renewed-apart, renewed-data, renewed-tag, renewed-untagged, renewed-exp, renewed-max}
+use Rattle.book.proofs.Small.{apart, share-fits, by-data-out, by-snack, completed-status, IsOffered, is-denied, is-immediate, is-numbered, offered-is, offered-number}
 use Rattle.book.proofs.PastWindow.{AllNumbered, WindowInv, next-is, distance-is, held-is, isHeld, window-quiet, window-keeps, window-hands, window-logs, window-fresh, count-is, exp-is, max-is, last-is, was-offered, placeIn, placeOf, headerIn, ticketIn, place-first}
 use Rattle.book.proofs.PastConns.{LiveOk, ConnIs, ConnInv, statusIn, conn-still, conn-open, conn-send, conn-ack, conn-logs, conn-fresh}
 use Rattle.book.proofs.PastNext.{NextIs, NextInv, next-still, next-open, next-send, next-ack, next-logs, next-fresh}
@@ -70,7 +74,7 @@ module _ (g : Given) (past : Past) (b : Book) (i : Inv g past b) where
   }
 
 -- a property of what a call on a connection does, of what one that lends does, and of a choice
-by-reach : (P : Step → Type 0) (b : Book) (c : ℕ) (o : Outputs) (f : OpenConnection → Step) → P (step (refused 7) o b) → P (step (refused 8) o b)
+pub by-reach : (P : Step → Type 0) (b : Book) (c : ℕ) (o : Outputs) (f : OpenConnection → Step) → P (step (refused 7) o b) → P (step (refused 8) o b)
     → (c < 4 → (k : OpenConnection) → connOf b c ≡ live k → P (f k)) → P (onConnection b c o f)
 unfolding onConnection onOpen
 by-reach P b c o f far shut k = go (decLt c 4)
@@ -83,7 +87,7 @@ by-reach P b c o f far shut k = go (decLt c 4)
     go (yes l) = rw (lt-ltb c 4 l) (at (connOf b c) refl l)
     go (no l) = rw (le-ltb c 4 (omega arith)) far
 
-by-lend : (P : Step → Type 0) (b : Book) (o : Outputs) (s : Step) → P (step (refused 1) o b) → (48 ≤ length (o .header) → P s) → P (lending b o s)
+pub by-lend : (P : Step → Type 0) (b : Book) (o : Outputs) (s : Step) → P (step (refused 1) o b) → (48 ≤ length (o .header) → P s) → P (lending b o s)
 unfolding lending
 by-lend P b o s short f = go (decLt (length (o .header)) 48)
   where
@@ -91,33 +95,60 @@ by-lend P b o s short f = go (decLt (length (o .header)) 48)
     go (yes l) = rw (lt-ltb (length (o .header)) 48 l) short
     go (no l) = let m : 48 ≤ length (o .header) = omega arith in rw (le-ltb (length (o .header)) 48 m) (f m)
 
+-- "Data calls may stand anywhere .. and change nothing in the book."
+pub transfer-leaves : (b : Book) (c : ℕ) (y : Record) (d : Transfer) → transferBy b c y d .book ≡ b
+unfolding transferBy movedBy
+transfer-leaves b c y (dataIn f a n o) =
+    by-lend (λ s. s .book ≡ b) b o _ refl (λ long. by-reach (λ s. s .book ≡ b) b c o _ refl refl (λ l k e. go (tooLong (k .longest) n) _ refl))
+  where
+    go : (u : Bool) (s : Step) → s .book ≡ b → pick u (step (refused 5) o b) s .book ≡ b
+    go true s q = refl
+    go false s q = q
+transfer-leaves b c y (r2t t n o) = by-lend (λ s. s .book ≡ b) b o _ refl (λ long. by-reach (λ s. s .book ≡ b) b c o _ refl refl (λ l k e. refl))
+transfer-leaves b c y (dataOut p) = by-reach (λ s. s .book ≡ b) b c noOutputs _ refl refl (λ l k e. go k (readPdu (k .limits) p))
+  where
+    go : (k : OpenConnection) (a : Read.Answer) → dataOutBy b y k a .book ≡ b
+    go k (Read.refused n) = refl
+    go k (Read.got q) = by-data-out (λ s. s .book ≡ b) _ _ (λ x. refl) refl (q .request)
+transfer-leaves b c y (dataSnack f p) = by-reach (λ s. s .book ≡ b) b c noOutputs _ refl refl (λ l k e. go k (readPdu (k .limits) p))
+  where
+    go : (k : OpenConnection) (a : Read.Answer) → dataSnackBy b y f k a .book ≡ b
+    go k (Read.refused n) = refl
+    go k (Read.got q) = by-snack (λ s. s .book ≡ b) _ _ (λ x. refl) refl (q .request)
+
 -- what the outcome of a send says
 record Stored (q : L.LedgerBook) (r : Response) (n : ℕ) : Type 0 where
   pub status : L.isStatus r ≡ true
   pub number : n ≡ q .next
   pub room : length (q .held) < 32
 
-stored-is : (q : L.LedgerBook) (longest : ℕ) (r : Response) (n : ℕ) → L.sending q longest r ≡ L.stored n → Stored q r n
+stored-is : (q : L.LedgerBook) (longest : ℕ) (due : Bool) (r : Response) (n : ℕ) → L.sending q longest due r ≡ L.stored n → Stored q r n
 unfolding L.sending
-stored-is q longest r n e = go (eqb (refusalIn longest r) 0) (L.isStatus r) refl (L.isFull q) refl e
+stored-is q longest due r n e = go (eqb (refusalIn longest r) 0) due (L.isStatus r) refl (L.isFull q) refl e
   where
-    go : (x y : Bool) → L.isStatus r ≡ y → (z : Bool) → L.isFull q ≡ z
-        → pick x (pick y (pick z (L.refused 10) (L.stored (q .next))) (L.notStored (q .next))) (L.refused (refusalIn longest r)) ≡ L.stored n → Stored q r n
-    go true true s true z e = let k : _≡_ {A = ℕ} 0 1 = cc in absurd (omega arith)
-    go true true s false z e = record { status = s; number = cc; room = unfold L.isFull in (leb-false 32 (length (q .held)) (unfold L.isFull in z)) }
-    go true false s u z e = let k : _≡_ {A = ℕ} 0 1 = cc in absurd (omega arith)
-    go false y s u z e = let k : _≡_ {A = ℕ} 0 1 = cc in absurd (omega arith)
+    go : (x d y : Bool) → L.isStatus r ≡ y → (z : Bool) → L.isFull q ≡ z
+        → pick x (pick d (pick y (pick z (L.refused 10) (L.stored (q .next))) (L.notStored (q .next))) (L.refused 3)) (L.refused (refusalIn longest r))
+        ≡ L.stored n
+        → Stored q r n
+    go true true true s true z e = let k : _≡_ {A = ℕ} 0 1 = cc in absurd (omega arith)
+    go true true true s false z e = record { status = s; number = cc; room = unfold L.isFull in (leb-false 32 (length (q .held)) (unfold L.isFull in z)) }
+    go true true false s u z e = let k : _≡_ {A = ℕ} 0 1 = cc in absurd (omega arith)
+    go true false y s u z e = let k : _≡_ {A = ℕ} 0 1 = cc in absurd (omega arith)
+    go false d y s u z e = let k : _≡_ {A = ℕ} 0 1 = cc in absurd (omega arith)
 
-unstored-is : (q : L.LedgerBook) (longest : ℕ) (r : Response) (n : ℕ) → L.sending q longest r ≡ L.notStored n → L.isStatus r ≡ false
+unstored-is : (q : L.LedgerBook) (longest : ℕ) (due : Bool) (r : Response) (n : ℕ) → L.sending q longest due r ≡ L.notStored n → L.isStatus r ≡ false
 unfolding L.sending
-unstored-is q longest r n e = go (eqb (refusalIn longest r) 0) (L.isStatus r) refl (L.isFull q) e
+unstored-is q longest due r n e = go (eqb (refusalIn longest r) 0) due (L.isStatus r) refl (L.isFull q) e
   where
-    go : (x y : Bool) → L.isStatus r ≡ y → (z : Bool)
-        → pick x (pick y (pick z (L.refused 10) (L.stored (q .next))) (L.notStored (q .next))) (L.refused (refusalIn longest r)) ≡ L.notStored n → L.isStatus r ≡ false
-    go true true s true e = let k : _≡_ {A = ℕ} 0 1 = cc in absurd (omega arith)
-    go true true s false e = let k : _≡_ {A = ℕ} 0 1 = cc in absurd (omega arith)
-    go true false s u e = s
-    go false y s u e = let k : _≡_ {A = ℕ} 0 1 = cc in absurd (omega arith)
+    go : (x d y : Bool) → L.isStatus r ≡ y → (z : Bool)
+        → pick x (pick d (pick y (pick z (L.refused 10) (L.stored (q .next))) (L.notStored (q .next))) (L.refused 3)) (L.refused (refusalIn longest r))
+        ≡ L.notStored n
+        → L.isStatus r ≡ false
+    go true true true s true e = let k : _≡_ {A = ℕ} 0 1 = cc in absurd (omega arith)
+    go true true true s false e = let k : _≡_ {A = ℕ} 0 1 = cc in absurd (omega arith)
+    go true true false s u e = s
+    go true false y s u e = let k : _≡_ {A = ℕ} 0 1 = cc in absurd (omega arith)
+    go false d y s u e = let k : _≡_ {A = ℕ} 0 1 = cc in absurd (omega arith)
 
 length-for : (q : L.LedgerBook) (r : Response) (e m : ℕ) → length (L.headerFor q r e m) ≡ 48
 unfolding L.headerFor
@@ -223,14 +254,15 @@ module _ (g : Given) (past : Past) (b : Book) (i : Inv g past b) where
       go (yes l) = rw (lt-ltb c 4 l) (at (connOf b c) l)
       go (no l) = rw (le-ltb c 4 (omega arith)) (quiet g past b i)
 
-  send-good : (c t : ℕ) (r : Response) (h : List ℕ) (o : Outputs) (k : OpenConnection) → c < 4 → connOf b c ≡ live k → length h ≡ 48
-      → (x : L.Sending) → L.sending (k .ledger) (k .longest) r ≡ x → Good g past b i (send c t r o) (sendAs b c t h o k x)
+  send-good : (c t : ℕ) (r : Response) (y : Record) (h : List ℕ) (o : Outputs) (k : OpenConnection) → c < 4 → connOf b c ≡ live k → length h ≡ 48
+      → (x : L.Sending) → L.sending (k .ledger) (k .longest) (isDue y r) (completed y r) ≡ x → Good g past b i (send c t r y o) (sendAs b c t h o k x)
   unfolding Good sendAs written withConn connOf Sized
-  send-good c t r h o k l e s (L.refused n) q = quiet g past b i
-  send-good c t r h o k l e s (L.notStored n) q = rw (unstored-is (k .ledger) (k .longest) r n q) (quiet g past b i)
-  send-good c t r h o k l e s (L.stored n) q =
-      let m = stored-is (k .ledger) (k .longest) r n q in
-      rw (m .status, m .number, take-at h (drop 48 (o .header)) 48 s) (record {
+  send-good c t r y h o k l e s (L.refused n) q = quiet g past b i
+  send-good c t r y h o k l e s (L.notStored n) q =
+      rw (← (completed-status y r), unstored-is (k .ledger) (k .longest) (isDue y r) (completed y r) n q) (quiet g past b i)
+  send-good c t r y h o k l e s (L.stored n) q =
+      let m = stored-is (k .ledger) (k .longest) (isDue y r) (completed y r) n q in
+      rw (← (completed-status y r), m .status, m .number, take-at h (drop 48 (o .header)) 48 s) (record {
         sized = (s, i .sized);
         given = i .given;
         window = window-quiet (i .window);
@@ -268,12 +300,12 @@ module _ (g : Given) (past : Past) (b : Book) (i : Inv g past b) where
       go L.notHeld = quiet g past b i
       go (L.run h m) = quiet g past b i
 
-  resend-good : (c n : ℕ) (o : Outputs) (k : OpenConnection) → Good g past b i (resend c n o) (resendBy b n o k)
+  resend-good : (c n : ℕ) (y : Record) (o : Outputs) (k : OpenConnection) → Good g past b i (resend c n y o) (resendBy b n y o k)
   unfolding Good resendBy shown
-  resend-good c n o k = go (eqb (b .given .level) 0) (L.statusOf (k .ledger) n)
+  resend-good c n y o k = go (eqb (b .given .level) 0) (L.statusOf (k .ledger) n)
     where
-      go : (u : Bool) (y : L.Found) → Good g past b i (resend c n o) (pick u (step (refused 12) o b) (shown b o y))
-      go true y = quiet g past b i
+      go : (u : Bool) (z : L.Found) → Good g past b i (resend c n y o) (pick u (step (refused 12) o b) (shown b y o z))
+      go true z = quiet g past b i
       go false L.missing = quiet g past b i
       go false (L.found s) = quiet g past b i
 
@@ -286,62 +318,26 @@ module _ (g : Given) (past : Past) (b : Book) (i : Inv g past b) where
   step-good (logout c r) x =
       by-reach (Good g past b i (logout c r)) b c noOutputs (λ k. logoutBy b c r) (quiet g past b i) (quiet g past b i) (λ l k e. logout-good c r l)
   step-good (opening c o) x = open-good c o
-  step-good (send c t r o) x =
-      by-lend (Good g past b i (send c t r o)) b o (onConnection b c o (sendBy b c t r o)) (quiet g past b i) (λ long.
-      by-reach (Good g past b i (send c t r o)) b c o (sendBy b c t r o) (quiet g past b i) (quiet g past b i)
-      (λ l k e. send-good c t r (L.headerFor (k .ledger) r (W.expCmdSN (b .window)) (W.maxCmdSN (b .window))) o k l e
-      (length-for (k .ledger) r (W.expCmdSN (b .window)) (W.maxCmdSN (b .window))) (L.sending (k .ledger) (k .longest) r) refl))
+  step-good (send c t r y o) x =
+      by-lend (Good g past b i (send c t r y o)) b o (onConnection b c o (sendBy b c t r y o)) (quiet g past b i) (λ long.
+      by-reach (Good g past b i (send c t r y o)) b c o (sendBy b c t r y o) (quiet g past b i) (quiet g past b i)
+      (λ l k e. send-good c t r y (L.headerFor (k .ledger) (completed y r) (W.expCmdSN (b .window)) (W.maxCmdSN (b .window))) o k l e
+      (length-for (k .ledger) (completed y r) (W.expCmdSN (b .window)) (W.maxCmdSN (b .window)))
+      (L.sending (k .ledger) (k .longest) (isDue y r) (completed y r)) refl))
   step-good (acknowledge c x) y =
       by-reach (Good g past b i (acknowledge c x)) b c noOutputs (acknowledgeBy b c x) (quiet g past b i) (quiet g past b i) (λ l k e. acknowledge-good c x k l e)
   step-good (snack c p) x =
       by-reach (Good g past b i (snack c p)) b c noOutputs (λ k. snackBy b (k .ledger) (asked (b .given .level) (readPdu (k .limits) p))) (quiet g past b i) (quiet g past b i)
       (λ l k e. snack-good c p (k .ledger) (asked (b .given .level) (readPdu (k .limits) p)))
-  step-good (resend c n o) x =
-      by-lend (Good g past b i (resend c n o)) b o (onConnection b c o (resendBy b n o)) (quiet g past b i) (λ long.
-      by-reach (Good g past b i (resend c n o)) b c o (resendBy b n o) (quiet g past b i) (quiet g past b i) (λ l k e. resend-good c n o k))
+  step-good (resend c n y o) x =
+      by-lend (Good g past b i (resend c n y o)) b o (onConnection b c o (resendBy b n y o)) (quiet g past b i) (λ long.
+      by-reach (Good g past b i (resend c n y o)) b c o (resendBy b n y o) (quiet g past b i) (quiet g past b i) (λ l k e. resend-good c n y o k))
+  step-good (transfer c y d) x = rw (transfer-leaves b c y d) (quiet g past b i)
   step-good (ask q) x = quiet g past b i
 
   pub inv-step : (t : Turn) → Inv g (andThen past (booked b t)) (bookStep b (t .call) (t .choice) .book)
   unfolding Good booked
   inv-step t = step-good (t .call) (t .choice)
-
--- ---- the bytes of a header that is resent
-
-sets-other : (l : List ℕ) (i j : ℕ) (vs : List ℕ) → (j < i) ⊎ (i + length vs ≤ j) → getD (sets l i vs) j 0 ≡ getD l j 0
-sets-other l i j [] h = refl
-sets-other l i j (x ∷ vs) h =
-    let ne : j ≡ i → ⊥ = λ e. ⊎-elim (λ a. omega arith) (λ a. omega arith) h in
-    sets-other (set l i x) (suc i) j vs (⊎-elim (λ a. inl (omega arith)) (λ a. inr (omega arith)) h) ∙ getD-set-other l i j x 0 ne
-
-sets-same : (l : List ℕ) (i j : ℕ) (vs : List ℕ) → j < length vs → i + length vs ≤ length l → getD (sets l i vs) (i + j) 0 ≡ getD vs j 0
-sets-same l i j vs h b =
-    let front : length (ListN.take i l) ≡ i = length-take-le i l (omega arith) in
-    ap (λ (x : List ℕ). getD x (i + j) 0) (sets-eq vs l i b ∙ append-assoc (ListN.take i l) vs (drop (i + length vs) l))
-    ∙ ap (λ (n : ℕ). getD (ListN.take i l ++ (vs ++ drop (i + length vs) l)) (n + j) 0) (sym front)
-    ∙ getD-append-add (ListN.take i l) (vs ++ drop (i + length vs) l) j 0
-    ∙ List·getD-append vs (drop (i + length vs) l) 0 j h
-
-module _ (h : List ℕ) (x : Renewal) where
-  renewed-other : (i : ℕ) → (i < 28) ⊎ (36 ≤ i) → getD (L.renewed h x) i 0 ≡ getD h i 0
-  unfolding L.renewed
-  renewed-other i s =
-      sets-other (sets h 28 (bytesOf 4 (x .«exp_cmd_sn»))) 32 i (bytesOf 4 (x .«max_cmd_sn»)) (⊎-elim (λ a. inl (omega arith)) (λ a. inr (omega (arith, length-bytes 4 (x .«max_cmd_sn»)))) s)
-      ∙ sets-other h 28 i (bytesOf 4 (x .«exp_cmd_sn»)) (⊎-elim (λ a. inl a) (λ a. inr (omega (arith, length-bytes 4 (x .«exp_cmd_sn»)))) s)
-
-  length-renewed : length (L.renewed h x) ≡ length h
-  unfolding L.renewed
-  length-renewed = length-sets (sets h 28 (bytesOf 4 (x .«exp_cmd_sn»))) 32 (bytesOf 4 (x .«max_cmd_sn»)) ∙ length-sets h 28 (bytesOf 4 (x .«exp_cmd_sn»))
-
-  renewed-exp : length h ≡ 48 → (i : ℕ) → i < 4 → getD (L.renewed h x) (28 + i) 0 ≡ getD (bytesOf 4 (x .«exp_cmd_sn»)) i 0
-  unfolding L.renewed
-  renewed-exp l i k =
-      sets-other (sets h 28 (bytesOf 4 (x .«exp_cmd_sn»))) 32 (28 + i) (bytesOf 4 (x .«max_cmd_sn»)) (inl (omega arith))
-      ∙ sets-same h 28 i (bytesOf 4 (x .«exp_cmd_sn»)) (omega (arith, length-bytes 4 (x .«exp_cmd_sn»))) (omega (arith, length-bytes 4 (x .«exp_cmd_sn»)))
-
-  renewed-max : length h ≡ 48 → (i : ℕ) → i < 4 → getD (L.renewed h x) (32 + i) 0 ≡ getD (bytesOf 4 (x .«max_cmd_sn»)) i 0
-  unfolding L.renewed
-  renewed-max l i k =
-      sets-same (sets h 28 (bytesOf 4 (x .«exp_cmd_sn»))) 32 i (bytesOf 4 (x .«max_cmd_sn»)) (omega (arith, length-bytes 4 (x .«max_cmd_sn»))) (omega (arith, length-bytes 4 (x .«max_cmd_sn»), length-sets h 28 (bytesOf 4 (x .«exp_cmd_sn»))))
 
 sent-size : (ds : List ConnectionEffect) (c n : ℕ) (s : L.Status) → Sized ds → lastSent ds c n ≡ L.found s → length (s .header) ≡ 48
 unfolding Sized lastSent
@@ -546,55 +542,61 @@ module _ (g : Given) (past : Past) (b : Book) (i : Inv g past b) where
       by-reach (λ s. NotRefused (s .answer) → Offers g (past .window) (cmdSN p) (s .answer)) b c noOutputs (λ k. offerBy b c t p (offeredAs (readPdu (k .limits) p)))
       (λ q. absurd (q 7 refl)) (λ q. absurd (q 8 refl)) (λ l k e. offers-by c t p m (offered-is (k .limits) p))
 
-  shows-at : (s : L.Status) (o : Outputs) → 48 ≤ length (o .header) → length (s .header) ≡ 48
-      → Shows g (past .window) s (o .header) (shown b o (L.found s) .answer) (shown b o (L.found s) .out .header)
+  shows-at : (y : Record) (s : L.Status) (o : Outputs) → 48 ≤ length (o .header) → length (s .header) ≡ 48
+      → Shows g (past .window) y s (o .header) (shown b y o (L.found s) .answer) (shown b y o (L.found s) .out .header)
   unfolding shown written
-  shows-at s o l z =
-      let x = renewal b in
+  shows-at y s o l z =
+      let x = renewal b y in
       let k : length (L.renewed (s .header) x) ≡ 48 = length-renewed (s .header) x ∙ z in
+      let at : (j : ℕ) → j < 48 → getD (L.renewed (s .header) x ++ drop 48 (o .header)) j 0 ≡ getD (L.renewed (s .header) x) j 0 =
+      λ j lj. List·getD-append (L.renewed (s .header) x) (drop 48 (o .header)) 0 j (omega arith) in
       record {
         ticket = refl;
         size = length-append (L.renewed (s .header) x) (drop 48 (o .header)) ∙ rw (k, length-drop) (omega arith);
-        header = λ j h lj. List·getD-append (L.renewed (s .header) x) (drop 48 (o .header)) 0 j (omega arith) ∙ renewed-other (s .header) x j h;
+        header = λ q j h lj. at j lj ∙ renewed-other (s .header) x q j h;
+        scsi-response = λ j h lj. at j lj ∙ renewed-apart (s .header) x j h;
+        exp-data-sn = λ q j lj. at (36 + j) (omega arith) ∙ renewed-data (s .header) x q z j lj;
+        snack-tag = λ q t j lj. at (20 + j) (omega arith) ∙ renewed-tag (s .header) x q t z j lj;
+        sent-tag = λ t j lj. at (20 + j) (omega arith) ∙ renewed-untagged (s .header) x t j lj;
         exp-cmd-sn = λ j lj.
-            List·getD-append (L.renewed (s .header) x) (drop 48 (o .header)) 0 (28 + j) (omega arith) ∙ renewed-exp (s .header) x z j lj
+            at (28 + j) (omega arith) ∙ renewed-exp (s .header) x z j lj
             ∙ ap (λ (y : ℕ). getD (bytesOf 4 y) j 0) (sym (exp-is g (past .window) (b .window) (i .window)));
         max-cmd-sn = λ j lj.
-            List·getD-append (L.renewed (s .header) x) (drop 48 (o .header)) 0 (32 + j) (omega arith) ∙ renewed-max (s .header) x z j lj
+            at (32 + j) (omega arith) ∙ renewed-max (s .header) x z j lj
             ∙ ap (λ (y : ℕ). getD (bytesOf 4 y) j 0) (sym (max-is g (past .window) (b .window) (i .window)));
         later = λ j lj. later-bytes (L.renewed (s .header) x) (o .header) j k lj;
       }
 
-  resends-at : (c n : ℕ) (o : Outputs) → 48 ≤ length (o .header)
-      → Resends g past c n (o .header) (shown b o (statusIn (past .connections) c n) .answer) (shown b o (statusIn (past .connections) c n) .out .header)
+  resends-at : (c n : ℕ) (y : Record) (o : Outputs) → 48 ≤ length (o .header)
+      → Resends g past c n y (o .header) (shown b y o (statusIn (past .connections) c n) .answer) (shown b y o (statusIn (past .connections) c n) .out .header)
   unfolding statusIn
-  resends-at c n o l = record {
+  resends-at c n y o l = record {
     refused = ⊎-elim (λ q. missing (acknowledgedSince ks c n) q) (λ q. rw q (unfold shown in (refl, refl)));
-    shows = λ s q a. rw (a, q) (shows-at s o l (sent-size ks c n s (i .sized) q));
+    shows = λ s q a. rw (a, q) (shows-at y s o l (sent-size ks c n s (i .sized) q));
   }
     where
       ks : List ConnectionEffect
       ks = past .connections
 
       missing : (u : Bool) → lastSent ks c n ≡ L.missing
-          → (shown b o (pick u L.missing (lastSent ks c n)) .answer ≡ refused 12) × (shown b o (pick u L.missing (lastSent ks c n)) .out .header ≡ o .header)
+          → (shown b y o (pick u L.missing (lastSent ks c n)) .answer ≡ refused 12) × (shown b y o (pick u L.missing (lastSent ks c n)) .out .header ≡ o .header)
       missing true q = unfold shown in (refl, refl)
       missing false q = rw q (unfold shown in (refl, refl))
 
-  resends-for : (c n : ℕ) (o : Outputs) (x : Choice) → isOpen (past .connections) c ≡ true → 0 < g .level → 48 ≤ length (o .header)
-      → Resends g past c n (o .header) (bookStep b (resend c n o) x .answer) (bookStep b (resend c n o) x .out .header)
+  resends-for : (c n : ℕ) (y : Record) (o : Outputs) (x : Choice) → isOpen (past .connections) c ≡ true → 0 < g .level → 48 ≤ length (o .header)
+      → Resends g past c n y (o .header) (bookStep b (resend c n y o) x .answer) (bookStep b (resend c n y o) x .out .header)
   unfolding bookStep lending onConnection onOpen resendBy ConnIs connOf
-  resends-for c n o x p vp long =
+  resends-for c n y o x p vp long =
       let l = i .conns .near c p in
       rw (le-ltb (length (o .header)) 48 long, lt-ltb c 4 l) (at (connOf b c) refl (i .conns .each c l))
     where
       at : (x : Connection) → connOf b c ≡ x → ConnIs (past .connections) c (getD (b .conns) c closed)
-          → Resends g past c n (o .header) (onOpen (connOf b c) b o (resendBy b n o) .answer) (onOpen (connOf b c) b o (resendBy b n o) .out .header)
+          → Resends g past c n y (o .header) (onOpen (connOf b c) b o (resendBy b n y o) .answer) (onOpen (connOf b c) b o (resendBy b n y o) .out .header)
       at closed e k = absurd (apart p (subst (ConnIs (past .connections) c) e k))
       at (live q) e k =
           let ok : LiveOk (past .connections) c (q .ledger) = subst (ConnIs (past .connections) c) e k in
           let lv : b .given .level ≡ 0 → ⊥ = λ z. omega (arith, ap (λ (y : Given). y .level) (i .given)) in
-          rw (e, ne-eqb (b .given .level) 0 lv, ← (ok .status n)) (resends-at c n o long)
+          rw (e, ne-eqb (b .given .level) 0 lv, ← (ok .status n)) (resends-at c n y o long)
 
   -- the next StatSN of a connection, by its number and by what the book has of it
   next-at : (c : ℕ) → c < 4 → (x : Connection) → ConnIs (past .connections) c x → NextIs g (past .connections) c x
@@ -640,8 +642,8 @@ module _ (g : Given) (past : Past) (b : Book) (i : Inv g past b) where
             subst (λ (y : Call). NotRefused (bookStep b y x .answer) → Offers g (past .window) (cmdSN p) (bookStep b y x .answer)) (sym q) (offers-for k d p x m) n;
         balance = unfold booked in (after .window .balance ∙ ap (λ (y : ℕ). handOuts ws + y + emptied ws) (sym (count-is g ws (bookStep b (t .call) x .book .window) (after .window))));
         within = λ n h. within g ws (bookStep b (t .call) x .book .window) n (after .window) h;
-        resends = λ k n o q p vp long.
-            subst (λ (y : Call). Resends g past k n (o .header) (bookStep b y x .answer) (bookStep b y x .out .header)) (sym q) (resends-for k n o x p vp long);
+        resends = λ k n z o q p vp long.
+            subst (λ (y : Call). Resends g past k n z (o .header) (bookStep b y x .answer) (bookStep b y x .out .header)) (sym q) (resends-for k n z o x p vp long);
         window-numbers = λ q. subst (λ (y : Call). bookStep b y x .answer ≡ told (numbers (expCmdSN g (past .window)) (maxCmdSN g (past .window)))) (sym q) window-for;
         next-stat-sn = λ k q. subst (λ (y : Call). TellsNext g (past .connections) k (bookStep b y x .answer)) (sym q) (next-for k x);
         holds = λ n q. subst (λ (y : Call). Holds g (past .window) n (bookStep b y x .answer)) (sym q) (holds-for g (past .window) b (i .window) n x);
@@ -654,7 +656,7 @@ module _ (g : Given) (past : Past) (b : Book) (i : Inv g past b) where
 
 -- ---- from a fresh session
 
-inv-fresh : (g : Given) → Inv g nothingDone (freshBook g)
+pub inv-fresh : (g : Given) → Inv g nothingDone (freshBook g)
 unfolding freshBook Sized
 inv-fresh g = record { given = refl; window = window-fresh g; conns = conn-fresh (g .opening); next = next-fresh g; sized = tt }
 

@@ -9,12 +9,17 @@ use lib.ListN.{length, getD, set, drop, replicate}
 use Rattle.field.specs.Field.{pick, beAt}
 use Rattle.request_header.specs.Request.{limits, readPdu, LengthAnswer, whole, unframed, lengthAsked}
 use Rattle.request_header.specs.Request as Read
-use Rattle.request_header.specs.Kind.{RequestKind, nopOut, scsiCommand, taskManagement, login, kindOf, ifSnack}
+use Rattle.request_header.specs.Kind.{RequestKind, nopOut, scsiCommand, taskManagement, login, kindOf, ifDataOut, ifSnack}
 use Rattle.request_header.specs.Kind as Kind
 use Rattle.request_header.specs.declared.Limits.{Limits}
 use Rattle.request_header.specs.declared.Request.{Request}
-use Rattle.response_header.specs.Response.{maxData}
+use Rattle.response_header.specs.Response.{maxData, tooLong, headerBytes}
+use Rattle.response_header.specs.declared.Numbers.{Numbers}
+use Rattle.response_header.specs.declared.ScsiResponse.{ScsiResponse}
 use Rattle.response_header.specs.declared.Response.{Response}
+use Rattle.response_header.specs.declared.Response.the-variants as R
+use Rattle.task_book.specs.Record.{Record}
+use Rattle.task_book.specs.Steps as T
 use Rattle.store.specs.Slot.{headerSize}
 use Rattle.window.specs.Book as W
 use Rattle.ledger.specs.Book as L
@@ -73,31 +78,47 @@ pub data Question : Type 0 where
   holder : (number : ℕ) → Question
   wholeLength : (bytes : List ℕ) → Question
 
--- The calls with their arguments. `out` is what a call lends, as it is before.
+-- A call that moves data for a task: a Data-In or an R2T is written, a Data-Out or a SNACK for data came.
+pub data Transfer : Type 0 where
+  dataIn : (final acknowledge : Bool) → (len : ℕ) → (out : Outputs) → Transfer
+  r2t : (tag len : ℕ) → (out : Outputs) → Transfer
+  dataOut : (pdu : List ℕ) → Transfer
+  dataSnack : (offset : ℕ) → (pdu : List ℕ) → Transfer
+
+-- The calls with their arguments. `out` is what a call lends, as it is before. A send, a resend and a transfer are given the record of a task, as
+-- the caller holds it.
 pub data Call : Type 0 where
   offer : (connection ticket : ℕ) → (pdu : List ℕ) → Call
   take : (out : Outputs) → Call
   logout : (connection reason : ℕ) → Call
   opening : (connection : ℕ) → Opening → Call
-  send : (connection ticket : ℕ) → Response → (out : Outputs) → Call
+  send : (connection ticket : ℕ) → Response → Record → (out : Outputs) → Call
   acknowledge : (connection expStatSN : ℕ) → Call
   snack : (connection : ℕ) → (pdu : List ℕ) → Call
-  resend : (connection statSN : ℕ) → (out : Outputs) → Call
+  resend : (connection statSN : ℕ) → Record → (out : Outputs) → Call
+  transfer : (connection : ℕ) → Record → Transfer → Call
   ask : Question → Call
 
 -- What a call lends; without an output it is empty.
 abbrev pub noOutputs : Outputs
 noOutputs = outputs []
 
+abbrev pub lentFor : Transfer → Outputs
+lentFor (dataIn f a n o) = o
+lentFor (r2t t n o) = o
+lentFor (dataOut p) = noOutputs
+lentFor (dataSnack f p) = noOutputs
+
 abbrev pub lent : Call → Outputs
 lent (offer c t p) = noOutputs
 lent (take o) = o
 lent (logout c r) = noOutputs
 lent (opening c g) = noOutputs
-lent (send c t r o) = o
+lent (send c t r x o) = o
 lent (acknowledge c e) = noOutputs
 lent (snack c p) = noOutputs
-lent (resend c n o) = o
+lent (resend c n x o) = o
+lent (transfer c x d) = lentFor d
 lent (ask q) = noOutputs
 
 -- What a question is answered, where it is not refused.
@@ -107,7 +128,8 @@ pub data Reply : Type 0 where
   holding : W.Holder → Reply
   lengthIs : ℕ → Reply
 
--- The answers. `refused` has paper 01's number; `window` is what the command window answers to an offer, a take, a logout.
+-- The answers. `refused` has paper 01's number; `window` is what the command window answers to an offer, a take, a logout; `moved` is what a transfer
+-- answers, with the record after it.
 pub data Answer : Type 0 where
   refused : ℕ → Answer
   immediate opened : Answer
@@ -116,6 +138,7 @@ pub data Answer : Type 0 where
   acknowledged : (count : ℕ) → Answer
   run : (first count : ℕ) → Answer
   resent : (ticket : ℕ) → Answer
+  moved : T.Answer → Record → Answer
   told : Reply → Answer
 
 -- A refusal of the window is the session's; its other answers are shown as they are.
@@ -191,6 +214,7 @@ isOfferedKind nopOut = true
 isOfferedKind scsiCommand = true
 isOfferedKind taskManagement = true
 isOfferedKind login = false
+isOfferedKind Kind.dataOut = false
 isOfferedKind Kind.logout = true
 isOfferedKind Kind.snack = false
 
@@ -245,9 +269,46 @@ sendAs b c t h o k (L.notStored n) = step (sent n) (written h o) b
 sendAs b c t h o k (L.stored n) =
     step (sent n) (written h o) (withConn b c (live (withLedger k (L.sent (k .ledger) (record { header = h; ticket = t })))))
 
-unfoldable pub sendBy : Book → (connection ticket : ℕ) → Response → Outputs → OpenConnection → Step
-sendBy b c t r o k =
-    sendAs b c t (L.headerFor (k .ledger) r (W.expCmdSN (b .window)) (W.maxCmdSN (b .window))) o k (L.sending (k .ledger) (k .longest) r)
+-- The response that is written: "ExpDataSN in the SCSI Response is now the count of Data-In and R2T sent (0 where RFC 7143 says so)", by the record.
+abbrev pub withExpDataSN : ScsiResponse → (expDataSN : ℕ) → ScsiResponse
+withExpDataSN r n = record {
+  overflow = r .overflow;
+  underflow = r .underflow;
+  response = r .response;
+  status = r .status;
+  «data_segment_length» = r .«data_segment_length»;
+  «initiator_task_tag» = r .«initiator_task_tag»;
+  «snack_tag» = r .«snack_tag»;
+  «residual_count» = r .«residual_count»;
+  «exp_data_sn» = n;
+}
+
+abbrev pub completed : Record → Response → Response
+completed x (R.NopIn r) = R.NopIn r
+completed x (R.ScsiResponse r) = R.ScsiResponse (withExpDataSN r (T.expDataSN (x .numbering) (r .response)))
+completed x (R.TaskManagementResponse r) = R.TaskManagementResponse r
+completed x (R.LoginResponse r) = R.LoginResponse r
+completed x (R.DataIn r) = R.DataIn r
+completed x (R.LogoutResponse r) = R.LogoutResponse r
+completed x (R.R2t r) = R.R2t r
+completed x (R.Reject r) = R.Reject r
+
+-- What is due: "one of the six responses", and of a SCSI Response, one whose "tag or number" is the one due: its ITT and its SNACK tag are the record's.
+abbrev pub isDue : Record → Response → Bool
+isDue x (R.NopIn r) = true
+isDue x (R.ScsiResponse r) = eqb (r .«initiator_task_tag») (x .given .«initiator_task_tag») && eqb (r .«snack_tag») (x .numbering .«snack_tag»)
+isDue x (R.TaskManagementResponse r) = true
+isDue x (R.LoginResponse r) = true
+isDue x (R.DataIn r) = false
+isDue x (R.LogoutResponse r) = true
+isDue x (R.R2t r) = false
+isDue x (R.Reject r) = true
+
+-- FIELD, "after writing's refusals and before FULL", where the response isn't due.
+unfoldable pub sendBy : Book → (connection ticket : ℕ) → Response → Record → Outputs → OpenConnection → Step
+sendBy b c t r x o k =
+    sendAs b c t (L.headerFor (k .ledger) (completed x r) (W.expCmdSN (b .window)) (W.maxCmdSN (b .window))) o k
+    (L.sending (k .ledger) (k .longest) (isDue x r) (completed x r))
 
 -- ---- acknowledge
 
@@ -284,17 +345,64 @@ snackBy b l (from f n) = runStep b (L.runOf l f n)
 
 -- ---- resend
 
--- What a resend renews: "the current numbers".
-abbrev pub renewal : Book → Renewal
-renewal b = record { «exp_cmd_sn» = W.expCmdSN (b .window); «max_cmd_sn» = W.maxCmdSN (b .window) }
+-- What a resend renews: "the current numbers", and of a SCSI Response what the record given has.
+abbrev pub renewal : Book → Record → Renewal
+renewal b x = record { «exp_cmd_sn» = W.expCmdSN (b .window); «max_cmd_sn» = W.maxCmdSN (b .window); numbering = x .numbering }
 
 -- "A resend of a held number, at a level above 0, writes its header and returns its ticket; of any other it is SNACK."
-unfoldable pub shown : Book → Outputs → L.Found → Step
-shown b o L.missing = refuse 12 o b
-shown b o (L.found s) = step (resent (s .ticket)) (written (L.renewed (s .header) (renewal b)) o) b
+unfoldable pub shown : Book → Record → Outputs → L.Found → Step
+shown b x o L.missing = refuse 12 o b
+shown b x o (L.found s) = step (resent (s .ticket)) (written (L.renewed (s .header) (renewal b x)) o) b
 
-unfoldable pub resendBy : Book → (statSN : ℕ) → Outputs → OpenConnection → Step
-resendBy b n o k = pick (eqb (b .given .level) 0) (refuse 12 o b) (shown b o (L.statusOf (k .ledger) n))
+unfoldable pub resendBy : Book → (statSN : ℕ) → Record → Outputs → OpenConnection → Step
+resendBy b n x o k = pick (eqb (b .given .level) 0) (refuse 12 o b) (shown b x o (L.statusOf (k .ledger) n))
+
+-- ---- transfers
+
+-- The numbers that a Data-In and an R2T carry: an R2T "carries the next StatSN, uses up none"; a Data-In's StatSN is 0.
+abbrev pub numbersNow : Book → OpenConnection → Numbers
+numbersNow b k = record { «stat_sn» = k .ledger .next; «exp_cmd_sn» = W.expCmdSN (b .window); «max_cmd_sn» = W.maxCmdSN (b .window) }
+
+-- What a transfer writes: the header of the Data-In or the R2T that is sent.
+abbrev pub outputAfter : T.Answer → Numbers → Outputs → Outputs
+outputAfter (T.refused n) m o = o
+outputAfter (T.dataIn h) m o = written (headerBytes (R.DataIn h) m) o
+outputAfter (T.r2t h) m o = written (headerBytes (R.R2t h) m) o
+outputAfter (T.came f n k) m o = o
+outputAfter (T.run f n) m o = o
+outputAfter (T.acknowledged n) m o = o
+
+-- A refusal of the record's rules is the session's; any other answer comes with the record after it.
+abbrev pub fromTask : T.Answer → Record → Answer
+fromTask (T.refused n) x = refused n
+fromTask (T.dataIn h) x = moved (T.dataIn h) x
+fromTask (T.r2t h) x = moved (T.r2t h) x
+fromTask (T.came f n k) x = moved (T.came f n k) x
+fromTask (T.run f n) x = moved (T.run f n) x
+fromTask (T.acknowledged n) x = moved (T.acknowledged n) x
+
+-- "Data calls .. change nothing in the book."
+unfoldable pub movedBy : Book → Outputs → OpenConnection → T.Step → Step
+movedBy b o k s = step (fromTask (s .answer) (s .after)) (outputAfter (s .answer) (numbersNow b k) o) b
+
+-- "FIELD for another kind".
+abbrev pub dataOutBy : Book → Record → OpenConnection → Read.Answer → Step
+dataOutBy b x k (Read.refused n) = refuse n noOutputs b
+dataOutBy b x k (Read.got p) =
+    ifDataOut (λ q. movedBy b noOutputs k (T.dataOutStep x (p .«initiator_task_tag») q (p .«data_segment_length»))) (refuse 3 noOutputs b) (p .request)
+
+abbrev pub dataSnackBy : Book → Record → (offset : ℕ) → OpenConnection → Read.Answer → Step
+dataSnackBy b x f k (Read.refused n) = refuse n noOutputs b
+dataSnackBy b x f k (Read.got p) =
+    ifSnack (λ q. movedBy b noOutputs k (T.dataSnackStep x (b .given .level) (p .«initiator_task_tag») f q)) (refuse 3 noOutputs b) (p .request)
+
+-- "All take a connection (7, then 8), come after BUFFER, then reading's or writing's refusals, then FIELD": of writing's, a Data-In has TOOLONG.
+unfoldable pub transferBy : Book → (connection : ℕ) → Record → Transfer → Step
+transferBy b c x (dataIn f a n o) =
+    lending b o (onConnection b c o (λ k. pick (tooLong (k .longest) n) (refuse 5 o b) (movedBy b o k (T.dataInStep x f a n))))
+transferBy b c x (r2t t n o) = lending b o (onConnection b c o (λ k. movedBy b o k (T.r2tStep x t n)))
+transferBy b c x (dataOut pdu) = onConnection b c noOutputs (λ k. dataOutBy b x k (readPdu (k .limits) pdu))
+transferBy b c x (dataSnack f pdu) = onConnection b c noOutputs (λ k. dataSnackBy b x f k (readPdu (k .limits) pdu))
 
 -- ---- questions
 
@@ -321,8 +429,9 @@ bookStep b (offer c t pdu) x = onConnection b c noOutputs (λ k. offerBy b c t p
 bookStep b (take o) x = lending b o (byWindow b (W.bookStep (b .window) (W.take (o .header))))
 bookStep b (logout c r) x = onConnection b c noOutputs (λ k. logoutBy b c r)
 bookStep b (opening c g) x = pick (ltb c connections) (openAt (connOf b c) b c g) (refuse 7 noOutputs b)
-bookStep b (send c t r o) x = lending b o (onConnection b c o (sendBy b c t r o))
+bookStep b (send c t r y o) x = lending b o (onConnection b c o (sendBy b c t r y o))
 bookStep b (acknowledge c e) x = onConnection b c noOutputs (acknowledgeBy b c e)
 bookStep b (snack c pdu) x = onConnection b c noOutputs (λ k. snackBy b (k .ledger) (asked (b .given .level) (readPdu (k .limits) pdu)))
-bookStep b (resend c n o) x = lending b o (onConnection b c o (resendBy b n o))
+bookStep b (resend c n y o) x = lending b o (onConnection b c o (resendBy b n y o))
+bookStep b (transfer c y d) x = transferBy b c y d
 bookStep b (ask q) x = step (replyTo b q) noOutputs b

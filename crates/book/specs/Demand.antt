@@ -12,6 +12,8 @@ use Rattle.field.specs.Field.{byte, bit, bytesOf}
 use Rattle.store.specs.Slot.{headerSize}
 use Rattle.window.specs.Book as W
 use Rattle.ledger.specs.Book.{Status, missing, found}
+use Rattle.task_book.specs.Record.{Record}
+use Rattle.task_book.specs.Steps.{expDataSN}
 use Rattle.book.specs.declared.Given.{Given}
 use Rattle.book.specs.Book.{connections, cmdSN, Outputs, offer, take, resend, ask, windowNumbers, nextStatSN, holder}
 use Rattle.book.specs.Book.{Answer, refused, window, resent, told, numbers, nextIs, holding}
@@ -49,21 +51,29 @@ pub record Offers (g : Given) (past : List WindowEffect) (n : ℕ) (a : Answer) 
   pub beyond : (a ≡ window W.beyond) ↔ ((amongNext g past n ≡ false) × (amongLast (2 ^ 31) past n ≡ false))
 
 -- "a resend is refused exactly when no status was sent under its number in that time, or the last one was acknowledged since;
--- otherwise it shows that last one, but for the two current window numbers."
-pub record Shows (g : Given) (past : List WindowEffect) (s : Status) (out : List ℕ) (a : Answer) (out' : List ℕ) : Type 0 where
+-- otherwise it shows that last one, but for the two current window numbers", and of a SCSI Response (0x21) what it takes of the record x that is
+-- given: its ExpDataSN, by the response code that was sent, "and the tag of a type 3 SNACK since".
+pub record Shows (g : Given) (past : List WindowEffect) (x : Record) (s : Status) (out : List ℕ) (a : Answer) (out' : List ℕ) : Type 0 where
   pub ticket : a ≡ resent (s .ticket)
   pub size : length out' ≡ length out
   -- the header as it was sent, but for bytes 28 to 35
-  pub header : (i : ℕ) → (i < 28) ⊎ (36 ≤ i) → i < headerSize → getD out' i 0 ≡ getD (s .header) i 0
+  pub header : (byte (s .header) 0 ≡ 0x21 → ⊥) → (i : ℕ) → (i < 28) ⊎ (36 ≤ i) → i < headerSize → getD out' i 0 ≡ getD (s .header) i 0
+  -- a SCSI Response "may differ in bytes 20 to 23 and 28 to 39"
+  pub scsi-response : (i : ℕ) → (i < 20) ⊎ (((24 ≤ i) × (i < 28)) ⊎ (40 ≤ i)) → i < headerSize → getD out' i 0 ≡ getD (s .header) i 0
+  -- its bytes 36 to 39 are the record's ExpDataSN; 20 to 23 the record's SNACK tag, or where that is 0, as they were sent
+  pub exp-data-sn : byte (s .header) 0 ≡ 0x21 → (i : ℕ) → i < 4 → getD out' (36 + i) 0 ≡ getD (bytesOf 4 (expDataSN (x .numbering) (byte (s .header) 2))) i 0
+  pub snack-tag : byte (s .header) 0 ≡ 0x21 → (x .numbering .«snack_tag» ≡ 0 → ⊥) → (i : ℕ) → i < 4
+      → getD out' (20 + i) 0 ≡ getD (bytesOf 4 (x .numbering .«snack_tag»)) i 0
+  pub sent-tag : x .numbering .«snack_tag» ≡ 0 → (i : ℕ) → i < 4 → getD out' (20 + i) 0 ≡ getD (s .header) (20 + i) 0
   -- bytes 28 to 31 are the current ExpCmdSN, 32 to 35 the current MaxCmdSN
   pub exp-cmd-sn : (i : ℕ) → i < 4 → getD out' (28 + i) 0 ≡ getD (bytesOf 4 (expCmdSN g past)) i 0
   pub max-cmd-sn : (i : ℕ) → i < 4 → getD out' (32 + i) 0 ≡ getD (bytesOf 4 (maxCmdSN g past)) i 0
   -- later bytes stay
   pub later : (i : ℕ) → headerSize ≤ i → getD out' i 0 ≡ getD out i 0
 
-pub record Resends (g : Given) (past : Past) (c n : ℕ) (out : List ℕ) (a : Answer) (out' : List ℕ) : Type 0 where
+pub record Resends (g : Given) (past : Past) (c n : ℕ) (x : Record) (out : List ℕ) (a : Answer) (out' : List ℕ) : Type 0 where
   pub refused : (lastSent (past .connections) c n ≡ missing) ⊎ (acknowledgedSince (past .connections) c n ≡ true) → (a ≡ refused 12) × (out' ≡ out)
-  pub shows : (s : Status) → lastSent (past .connections) c n ≡ found s → acknowledgedSince (past .connections) c n ≡ false → Shows g (past .window) s out a out'
+  pub shows : (s : Status) → lastSent (past .connections) c n ≡ found s → acknowledgedSince (past .connections) c n ≡ false → Shows g (past .window) x s out a out'
 
 -- Who holds the number n: nobody exactly when it is not held, void exactly when a logout voided it since; otherwise the ticket of its latest
 -- kept offer, and the origin that it still has.
@@ -102,8 +112,8 @@ pub record Sentences (g : Given) (past : Past) (e : Event) : Type 0 where
   pub balance : keptOffers (windowEffect e ∷ past .window) ≡ handOuts (windowEffect e ∷ past .window) + heldNow g (windowEffect e ∷ past .window) + emptied (windowEffect e ∷ past .window)
   pub within : (n : ℕ) → held g (windowEffect e ∷ past .window) n ≡ true → amongNext g (windowEffect e ∷ past .window) n ≡ true
   -- "On each open connection since its latest opening, at ErrorRecoveryLevel above 0 and with 48 bytes lent, a resend is ..".
-  pub resends : (c n : ℕ) (out : Outputs) → e .call ≡ resend c n out → isOpen (past .connections) c ≡ true → 0 < g .level → headerSize ≤ length (out .header)
-      → Resends g past c n (out .header) (e .answer) (e .out .header)
+  pub resends : (c n : ℕ) (x : Record) (out : Outputs) → e .call ≡ resend c n x out → isOpen (past .connections) c ≡ true → 0 < g .level
+      → headerSize ≤ length (out .header) → Resends g past c n x (out .header) (e .answer) (e .out .header)
   -- the window's two numbers, the next StatSN of a connection, and who holds a number, where they are asked for
   pub window-numbers : e .call ≡ ask windowNumbers → e .answer ≡ told (numbers (expCmdSN g (past .window)) (maxCmdSN g (past .window)))
   pub next-stat-sn : (c : ℕ) → e .call ≡ ask (nextStatSN c) → TellsNext g (past .connections) c (e .answer)

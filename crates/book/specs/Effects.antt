@@ -8,7 +8,7 @@ use Rattle.store.specs.Slot.{headerSize}
 use Rattle.window.specs.Book as W
 use Rattle.ledger.specs.Book.{isStatus}
 use Rattle.book.specs.declared.Opening.{Opening}
-use Rattle.book.specs.Book.{Outputs, Call, offer, take, logout, opening, send, acknowledge, snack, resend, ask, Answer, refused, immediate, opened, window, sent, acknowledged, run, resent, told, cmdSN}
+use Rattle.book.specs.Book.{Outputs, Call, offer, take, logout, opening, send, acknowledge, snack, resend, transfer, ask, Answer, refused, immediate, opened, window, sent, acknowledged, run, resent, moved, told, cmdSN}
 use Rattle.book.specs.Events.{Event}
 
 -- ---- the window's side
@@ -97,6 +97,7 @@ byAnswer w o s k x (sent n) = s n
 byAnswer w o s k x (acknowledged n) = k
 byAnswer w o s k x (run f n) = x
 byAnswer w o s k x (resent t) = x
+byAnswer w o s k x (moved a y) = x
 byAnswer w o s k x (told r) = x
 
 abbrev pub ifKept : {A : Type 0} → A → A → Answer → A
@@ -123,10 +124,11 @@ windowEffectBy (offer c t p) a = ifKept (keeps (cmdSN p) c t (ListN.take headerS
 windowEffectBy (take x) a = ifHandedOut handsOut WindowEffect.none a
 windowEffectBy (logout c r) a = ifLoggedOut (logsOut c r) WindowEffect.none a
 windowEffectBy (opening c g) a = WindowEffect.none
-windowEffectBy (send c t r x) a = WindowEffect.none
+windowEffectBy (send c t r y x) a = WindowEffect.none
 windowEffectBy (acknowledge c e) a = WindowEffect.none
 windowEffectBy (snack c p) a = WindowEffect.none
-windowEffectBy (resend c n x) a = WindowEffect.none
+windowEffectBy (resend c n y x) a = WindowEffect.none
+windowEffectBy (transfer c y d) a = WindowEffect.none
 windowEffectBy (ask q) a = WindowEffect.none
 
 -- What a call did to a connection. "A NOP-In with ITT 0xffffffff .. doesn't count as a status sent": its send does nothing.
@@ -135,11 +137,12 @@ connectionEffectBy (offer c t p) o a = ConnectionEffect.none
 connectionEffectBy (take x) o a = ConnectionEffect.none
 connectionEffectBy (logout c r) o a = ifLoggedOut (λ e v. closes c r) ConnectionEffect.none a
 connectionEffectBy (opening c g) o a = ifOpened (opens c g) ConnectionEffect.none a
-connectionEffectBy (send c t r x) o a =
+connectionEffectBy (send c t r y x) o a =
     ifSent (λ n. pick (isStatus r) (sends c n t (ListN.take headerSize (o .header))) ConnectionEffect.none) ConnectionEffect.none a
 connectionEffectBy (acknowledge c e) o a = ifAcknowledged (acknowledges c e) ConnectionEffect.none a
 connectionEffectBy (snack c p) o a = ConnectionEffect.none
-connectionEffectBy (resend c n x) o a = ConnectionEffect.none
+connectionEffectBy (resend c n y x) o a = ConnectionEffect.none
+connectionEffectBy (transfer c y d) o a = ConnectionEffect.none
 connectionEffectBy (ask q) o a = ConnectionEffect.none
 
 abbrev pub windowEffect : Event → WindowEffect

@@ -5,6 +5,7 @@ use mathlib.Core.List.{List, [], _∷_, _++_}
 use lib.ListN.{replicate}
 use Rattle.field.specs.Field.{bytesOf}
 use Rattle.response_header.specs.declared.Response.the-variants as R
+use Rattle.task_book.specs.Record.{freshRecord}
 use Rattle.window.specs.Book as W
 use Rattle.book.specs.Book.{Book, freshBook, outputs, Call, offer, take, send, snack, ask, windowNumbers, Answer, window, run, told, numbers, Choice}
 use Rattle.book.specs.Events.{Event, Turn, turn, bookRun, bookAfter}
@@ -29,9 +30,15 @@ asks b n = snack 0 (0x10 ∷ 0x81 ∷ replicate 14 0 ++ replicate 8 0xff ++ repl
 takes : Call
 takes = take (outputs (replicate 48 0))
 
--- A Reject, as a status.
+-- A Reject, as a status, with the record of some task, which it doesn't look at.
 sends : Call
-sends = send 0 7 (R.Reject (record { reason = 4 })) (outputs (replicate 48 0))
+sends = send 0 7 (R.Reject (record { reason = 4 })) (freshRecord (record {
+  «initiator_task_tag» = 0;
+  lun = 0;
+  «transfer_tag» = 0xffffffff;
+  «max_burst_length» = 262144;
+  «max_outstanding_r2t» = 1;
+}) 0) (outputs (replicate 48 0))
 
 threeHeld : List Call
 threeHeld = sends ∷ sends ∷ sends ∷ []
