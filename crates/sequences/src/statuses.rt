@@ -9,6 +9,7 @@ use crate::lines::SNACK;
 use crate::lines::called;
 use crate::lines::came;
 use crate::pdu::status_snack;
+use field::NONE;
 use field::be32;
 use print::put_refused;
 use print::put_with;
@@ -21,6 +22,9 @@ use session_state::after_ledger;
 use session_statuses::AcknowledgeAnswer;
 use session_statuses::ResendAnswer;
 use session_statuses::SendAnswer;
+use task::MakeAnswer;
+use task::Task;
+use task_book::TaskGiven;
 
 fn after_send(s: Session, conn: u32, a: SendAnswer) -> Session {
     match a {
@@ -39,20 +43,44 @@ fn after_send(s: Session, conn: u32, a: SendAnswer) -> Session {
     }
 }
 
-// Sends a Reject with reason 4.
-pub(crate) fn send(f: FreshSession, conn: u32, ticket: u32) -> FreshSession {
-    called(SEND, conn, 0, 0);
+// A fresh record, with the defaults of MaxBurstLength and MaxOutstandingR2T. The statuses here are of no task: its ITT is 0.
+fn fresh_task() -> MakeAnswer {
+    task::make(
+        TaskGiven {
+            initiator_task_tag: 0,
+            lun: 0,
+            transfer_tag: NONE,
+            max_burst_length: 262144,
+            max_outstanding_r2t: 1,
+        },
+        0,
+    )
+}
+
+fn send_with(f: FreshSession, conn: u32, ticket: u32, t: Task) -> FreshSession {
     let s = f.session;
     let mut after = f;
     let mut statuses = f.statuses;
     let mut tickets = f.status_tickets;
     let mut out = [0u8; 48];
     let r = Response::Reject(Reject { reason: 4 });
-    let a = session_statuses::send(s, conn, ticket, r, &mut out, &mut statuses, &mut tickets);
+    let a = session_statuses::send(s, conn, ticket, r, t, &mut out, &mut statuses, &mut tickets);
     after.session = after_send(s, conn, a);
     after.statuses = statuses;
     after.status_tickets = tickets;
     after
+}
+
+// Sends a Reject with reason 4.
+pub(crate) fn send(f: FreshSession, conn: u32, ticket: u32) -> FreshSession {
+    called(SEND, conn, 0, 0);
+    match fresh_task() {
+        MakeAnswer::Refused(e) => {
+            put_refused(e);
+            f
+        }
+        MakeAnswer::Made(t) => send_with(f, conn, ticket, t),
+    }
 }
 
 fn after_acknowledge(s: Session, conn: u32, a: AcknowledgeAnswer) -> Session {
@@ -99,14 +127,21 @@ fn put_resent(ticket: u32, header: &[u8; 48]) {
     );
 }
 
-pub(crate) fn resend(f: FreshSession, conn: u32, stat_sn: u32) {
-    called(RESEND, conn, stat_sn, 0);
+fn resend_with(f: FreshSession, conn: u32, stat_sn: u32, t: Task) {
     let s = f.session;
     let statuses = f.statuses;
     let tickets = f.status_tickets;
     let mut out = [0u8; 48];
-    match session_statuses::resend(s, conn, stat_sn, &statuses, &tickets, &mut out) {
+    match session_statuses::resend(s, conn, stat_sn, t, &statuses, &tickets, &mut out) {
         ResendAnswer::Refused(f) => put_refused(f),
         ResendAnswer::Resent(t) => put_resent(t, &out),
+    }
+}
+
+pub(crate) fn resend(f: FreshSession, conn: u32, stat_sn: u32) {
+    called(RESEND, conn, stat_sn, 0);
+    match fresh_task() {
+        MakeAnswer::Refused(e) => put_refused(e),
+        MakeAnswer::Made(t) => resend_with(f, conn, stat_sn, t),
     }
 }

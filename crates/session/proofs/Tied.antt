@@ -11,11 +11,19 @@ use Rattle.window.specs.Agree.{Commands}
 use Rattle.window.specs.Agree as WA
 use Rattle.request_header.specs.Request.{lengthAnswerOf}
 use Rattle.ledger.specs.Agree.{Statuses, statusesIn}
-use Rattle.book.specs.Book.{Outputs, outputs, noOutputs, Call, offer, take, logout, opening, send, acknowledge, snack, resend, ask, Question, windowNumbers, nextStatSN, holder, wholeLength, Answer, told, numbers, holding, lengthReply, freshBook}
+use Rattle.task_book.specs.declared.TaskGiven.{TaskGiven}
+use Rattle.task_book.specs.Record.{Record, making, made}
+use Rattle.task_book.specs.History as T
+use Rattle.task_book.specs.Sentences.{DataPhases}
+use Rattle.task.specs.Agree.{recordOf, dataInStepOf, r2tStepOf, dataOutStepOf, dataSnackStepOf}
+use Rattle.book.specs.Book.{Outputs, outputs, noOutputs, Call, offer, take, logout, opening, send, acknowledge, snack, resend, Transfer, dataIn, r2t, dataOut, dataSnack, transfer, ask, Question, windowNumbers, nextStatSN, holder, wholeLength, Answer, told, numbers, holding, lengthReply, freshBook}
 use Rattle.book.specs.Events.{Event, event, turnsOf}
+use Rattle.book.specs.Tasks.{OnTask}
 use Rattle.book.specs.Demand.{Demand3}
 use Rattle.book.proofs.Sentences.{demand3-booked}
+use Rattle.book.proofs.Tasks.{tasks-booked}
 use Rattle.session_state.specs.After.{afterWindow}
+use Rattle.session_state.specs.Transfer.{transferred}
 use Rattle.session_state.specs.Agree.{State, state, Did}
 use Rattle.session_state.specs.History.{Ran, Booked, history, Each, Stayed, stayed}
 use Rattle.session_commands.specs.Answer.{offerAnswer, takeAnswer}
@@ -41,6 +49,14 @@ use Rattle.session_snack.proofs.snack.Reads as snack-r
 use Rattle.session_snack.proofs.snack.Kinds as snack-k
 use Rattle.session_statuses.proofs.resend.Reads as resend-r
 use Rattle.session_statuses.proofs.resend.Kinds as resend-k
+use Rattle.session_data_in.proofs.data_in.Reads as data-in-r
+use Rattle.session_data_in.proofs.data_in.Kinds as data-in-k
+use Rattle.session_data_in.proofs.r2t.Reads as r2t-r
+use Rattle.session_data_in.proofs.r2t.Kinds as r2t-k
+use Rattle.session_data_out.proofs.data_out.Reads as data-out-r
+use Rattle.session_data_out.proofs.data_out.Kinds as data-out-k
+use Rattle.session_data_out.proofs.data_snack.Reads as data-snack-r
+use Rattle.session_data_out.proofs.data_snack.Kinds as data-snack-k
 use Rattle.session_questions.proofs.window_numbers.Reads as numbers-r
 use Rattle.session_questions.proofs.window_numbers.Kinds as numbers-k
 use Rattle.session_questions.proofs.next_stat_sn.Reads as next-r
@@ -117,7 +133,7 @@ pub record ByOpen (d : Done) : Type 1 where
       (openAnswer r) (noOutputs)
       (state (afterOpen (a .0) (a .1 .0) r) commands statuses)
 
--- A call of `send`: a are its arguments, r its result, s its parameters at exit.
+-- A call of `send`: a are its arguments, r its result, s its parameters at exit. tags and ends are the open R2Ts of the record, which it isn't lent.
 pub record BySend (d : Done) : Type 1 where
   pub κs : Lifetimes.Lfts 3
   pub a : K.Dens {n = 3} κs send-k.ps
@@ -125,10 +141,12 @@ pub record BySend (d : Done) : Type 1 where
   pub s : AtExit (K.endedOf 3 send-k.ps send-k.r) κs
   pub learnt : send-r.Learnt κs a r s
   pub commands : Commands
-  pub is : d ≡ done (send (a .1 .0) (a .1 .1 .0) (a .1 .1 .1 .0) (outputs (now (a .1 .1 .1 .1 .0))))
-      (state (a .0) commands (statusesIn (now (a .1 .1 .1 .1 .1 .0)) (now (a .1 .1 .1 .1 .1 .1 .0))))
-      (sendAnswer r) (outputs (now (s .1 .1 .1 .1 .0)))
-      (state (afterSend (a .0) (a .1 .0) r) commands (statusesIn (now (s .1 .1 .1 .1 .1 .0)) (now (s .1 .1 .1 .1 .1 .1 .0))))
+  pub tags : List ℕ
+  pub ends : List ℕ
+  pub is : d ≡ done (send (a .1 .0) (a .1 .1 .0) (a .1 .1 .1 .0) (recordOf (a .1 .1 .1 .1 .0) tags ends) (outputs (now (a .1 .1 .1 .1 .1 .0))))
+      (state (a .0) commands (statusesIn (now (a .1 .1 .1 .1 .1 .1 .0)) (now (a .1 .1 .1 .1 .1 .1 .1 .0))))
+      (sendAnswer r) (outputs (now (s .1 .1 .1 .1 .1 .0)))
+      (state (afterSend (a .0) (a .1 .0) r) commands (statusesIn (now (s .1 .1 .1 .1 .1 .1 .0)) (now (s .1 .1 .1 .1 .1 .1 .1 .0))))
 
 -- A call of `acknowledge`: a are its arguments, r its result, s its parameters at exit.
 pub record ByAcknowledge (d : Done) : Type 1 where
@@ -166,10 +184,74 @@ pub record ByResend (d : Done) : Type 1 where
   pub s : AtExit (K.endedOf 3 resend-k.ps resend-k.r) κs
   pub learnt : resend-r.Learnt κs a r s
   pub commands : Commands
-  pub is : d ≡ done (resend (a .1 .0) (a .1 .1 .0) (outputs (now (a .1 .1 .1 .1 .1 .0))))
-      (state (a .0) commands (statusesIn (now (a .1 .1 .1 .0)) (now (a .1 .1 .1 .1 .0))))
-      (resendAnswer r) (outputs (now (s .1 .1 .1 .1 .1 .0)))
-      (state (a .0) commands (statusesIn (now (a .1 .1 .1 .0)) (now (a .1 .1 .1 .1 .0))))
+  pub tags : List ℕ
+  pub ends : List ℕ
+  pub is : d ≡ done (resend (a .1 .0) (a .1 .1 .0) (recordOf (a .1 .1 .1 .0) tags ends) (outputs (now (a .1 .1 .1 .1 .1 .1 .0))))
+      (state (a .0) commands (statusesIn (now (a .1 .1 .1 .1 .0)) (now (a .1 .1 .1 .1 .1 .0))))
+      (resendAnswer r) (outputs (now (s .1 .1 .1 .1 .1 .1 .0)))
+      (state (a .0) commands (statusesIn (now (a .1 .1 .1 .1 .0)) (now (a .1 .1 .1 .1 .1 .0))))
+
+-- A call of `data_in`: a are its arguments, r its result, s its parameters at exit.
+pub record ByDataIn (d : Done) : Type 1 where
+  pub κs : Lifetimes.Lfts 1
+  pub a : K.Dens {n = 1} κs data-in-k.ps
+  pub r : K.resT data-in-k.r κs .Denot
+  pub s : AtExit (K.endedOf 1 data-in-k.ps data-in-k.r) κs
+  pub learnt : data-in-r.Learnt κs a r s
+  pub commands : Commands
+  pub statuses : Statuses
+  pub tags : List ℕ
+  pub ends : List ℕ
+  pub is : d ≡ done (transfer (a .1 .0) (recordOf (a .1 .1 .0) tags ends)
+      (dataIn (a .1 .1 .1 .0) (a .1 .1 .1 .1 .0) (a .1 .1 .1 .1 .1 .0) (outputs (now (a .1 .1 .1 .1 .1 .1 .0)))))
+      (state (a .0) commands statuses)
+      (transferred (dataInStepOf (a .1 .1 .0) tags ends r)) (outputs (now (s .1 .1 .1 .1 .1 .1 .0)))
+      (state (a .0) commands statuses)
+
+-- A call of `r2t`: a are its arguments, r its result, s its parameters at exit. It is lent the open R2Ts of the record.
+pub record ByR2T (d : Done) : Type 1 where
+  pub κs : Lifetimes.Lfts 3
+  pub a : K.Dens {n = 3} κs r2t-k.ps
+  pub r : K.resT r2t-k.r κs .Denot
+  pub s : AtExit (K.endedOf 3 r2t-k.ps r2t-k.r) κs
+  pub learnt : r2t-r.Learnt κs a r s
+  pub commands : Commands
+  pub statuses : Statuses
+  pub is : d ≡ done (transfer (a .1 .0) (recordOf (a .1 .1 .0) (now (a .1 .1 .1 .1 .1 .0)) (now (a .1 .1 .1 .1 .1 .1 .0)))
+      (r2t (a .1 .1 .1 .0) (a .1 .1 .1 .1 .0) (outputs (now (a .1 .1 .1 .1 .1 .1 .1 .0)))))
+      (state (a .0) commands statuses)
+      (transferred (r2tStepOf (a .1 .1 .0) (now (s .1 .1 .1 .1 .1 .0)) (now (s .1 .1 .1 .1 .1 .1 .0)) r)) (outputs (now (s .1 .1 .1 .1 .1 .1 .1 .0)))
+      (state (a .0) commands statuses)
+
+-- A call of `data_out`: a are its arguments, r its result, s its parameters at exit.
+pub record ByDataOut (d : Done) : Type 1 where
+  pub κs : Lifetimes.Lfts 3
+  pub a : K.Dens {n = 3} κs data-out-k.ps
+  pub r : K.resT data-out-k.r κs .Denot
+  pub s : AtExit (K.endedOf 3 data-out-k.ps data-out-k.r) κs
+  pub learnt : data-out-r.Learnt κs a r s
+  pub commands : Commands
+  pub statuses : Statuses
+  pub is : d ≡ done (transfer (a .1 .0) (recordOf (a .1 .1 .0) (now (a .1 .1 .1 .0)) (now (a .1 .1 .1 .1 .0))) (dataOut (now (a .1 .1 .1 .1 .1 .0))))
+      (state (a .0) commands statuses)
+      (transferred (dataOutStepOf (a .1 .1 .0) (now (a .1 .1 .1 .0)) (now (a .1 .1 .1 .1 .0)) r)) (noOutputs)
+      (state (a .0) commands statuses)
+
+-- A call of `data_snack`: a are its arguments, r its result, s its parameters at exit.
+pub record ByDataSnack (d : Done) : Type 1 where
+  pub κs : Lifetimes.Lfts 1
+  pub a : K.Dens {n = 1} κs data-snack-k.ps
+  pub r : K.resT data-snack-k.r κs .Denot
+  pub s : AtExit (K.endedOf 1 data-snack-k.ps data-snack-k.r) κs
+  pub learnt : data-snack-r.Learnt κs a r s
+  pub commands : Commands
+  pub statuses : Statuses
+  pub tags : List ℕ
+  pub ends : List ℕ
+  pub is : d ≡ done (transfer (a .1 .0) (recordOf (a .1 .1 .0) tags ends) (dataSnack (a .1 .1 .1 .0) (now (a .1 .1 .1 .1 .0))))
+      (state (a .0) commands statuses)
+      (transferred (dataSnackStepOf (a .1 .1 .0) tags ends r)) (noOutputs)
+      (state (a .0) commands statuses)
 
 -- A call of `window_numbers`: a are its arguments, r its result, s its parameters at exit.
 pub record ByNumbers (d : Done) : Type 1 where
@@ -230,6 +312,13 @@ PutTo (nextStatSN c) d = ByNext d
 PutTo (holder n) d = ByHolder d
 PutTo (wholeLength p) d = ByLength d
 
+-- A transfer was put to its own function.
+abbrev pub MovedBy : Transfer → Done → Type 1
+MovedBy (dataIn f a n o) d = ByDataIn d
+MovedBy (r2t t n o) d = ByR2T d
+MovedBy (dataOut p) d = ByDataOut d
+MovedBy (dataSnack o p) d = ByDataSnack d
+
 -- What was done was done by the function of its call: each case of `Call` has its own. The state before and after is the struct and the
 -- arrays together; the arrays that a call does not borrow stay ("written by nobody else").
 abbrev pub CalledBy : Call → Done → Type 1
@@ -237,10 +326,11 @@ CalledBy (offer c t p) d = ByOffer d
 CalledBy (take o) d = ByTake d
 CalledBy (logout c r) d = ByLogout d
 CalledBy (opening c g) d = ByOpen d
-CalledBy (send c t r o) d = BySend d
+CalledBy (send c t r x o) d = BySend d
 CalledBy (acknowledge c e) d = ByAcknowledge d
 CalledBy (snack c p) d = BySnack d
-CalledBy (resend c n o) d = ByResend d
+CalledBy (resend c n x o) d = ByResend d
+CalledBy (transfer c x y) d = MovedBy y d
 CalledBy (ask q) d = PutTo q d
 
 abbrev pub Called : Done → Type 1
@@ -256,15 +346,22 @@ put-did (nextStatSN c) d x = subst DidIt (sym (x .is)) (x .learnt (x .commands) 
 put-did (holder n) d x = subst DidIt (sym (x .is)) (x .learnt (x .headers) (x .statuses))
 put-did (wholeLength p) d x = subst DidIt (sym (x .is)) (x .learnt (x .left))
 
+pub moved-did : (t : Transfer) (d : Done) → MovedBy t d → DidIt d
+moved-did (dataIn f a n o) d x = subst DidIt (sym (x .is)) (x .learnt (x .commands) (x .statuses) (x .tags) (x .ends))
+moved-did (r2t t n o) d x = subst DidIt (sym (x .is)) (x .learnt .0 (x .commands) (x .statuses))
+moved-did (dataOut p) d x = subst DidIt (sym (x .is)) (x .learnt (x .commands) (x .statuses))
+moved-did (dataSnack o p) d x = subst DidIt (sym (x .is)) (x .learnt (x .commands) (x .statuses) (x .tags) (x .ends))
+
 pub called-did : (c : Call) (d : Done) → CalledBy c d → DidIt d
 called-did (offer c t p) d x = subst DidIt (sym (x .is)) (x .learnt (x .statuses))
 called-did (take o) d x = subst DidIt (sym (x .is)) (x .learnt (x .statuses))
 called-did (logout c r) d x = subst DidIt (sym (x .is)) (x .learnt (x .commands) (x .statuses))
 called-did (opening c g) d x = subst DidIt (sym (x .is)) (x .learnt (x .commands) (x .statuses))
-called-did (send c t r o) d x = subst DidIt (sym (x .is)) (x .learnt (x .commands))
+called-did (send c t r y o) d x = subst DidIt (sym (x .is)) (x .learnt (x .commands) (x .tags) (x .ends))
 called-did (acknowledge c e) d x = subst DidIt (sym (x .is)) (x .learnt (x .commands) (x .statuses))
 called-did (snack c p) d x = subst DidIt (sym (x .is)) (x .learnt (x .commands) (x .statuses))
-called-did (resend c n o) d x = subst DidIt (sym (x .is)) (x .learnt (x .commands))
+called-did (resend c n y o) d x = subst DidIt (sym (x .is)) (x .learnt (x .commands) (x .tags) (x .ends))
+called-did (transfer c y z) d x = moved-did z d x
 called-did (ask q) d x = put-did q d x
 
 -- "each on the state that the last left"
@@ -293,3 +390,9 @@ module _ (κs : Lifetimes.Lfts 0) (a : K.Dens {n = 0} κs fresh-k.ps) (w : K.res
   -- Demand 3, sentence by sentence, which names no book.
   pub demand3 : Demand3 (a .0) es
   demand3 = subst (Demand3 (a .0)) (sym (booked .events)) (demand3-booked (a .0) (turnsOf es))
+
+  -- The data sentences of every task among them: its record was made from t, with immediate data of the length n, and each of its calls was given the
+  -- record as it was last answered.
+  pub data-sentences : (t : TaskGiven) (n : ℕ) {x y : Record} {ts : List T.Event} → making t n ≡ made x → OnTask (a .0 .level) x es ts y → DataPhases t n ts
+  data-sentences t n {x} {y} {ts} m o =
+      tasks-booked (a .0) (turnsOf es) t n m (subst (λ (l : List Event). OnTask (a .0 .level) x l ts y) (booked .events) o)

@@ -5,14 +5,16 @@ use mathlib.Core.List.{List}
 use native.Mathlib.Omega.{arith}
 use lib.ListN as ListN
 use lib.ListN.{length}
-use Rattle.request_header.specs.Request.{limits, readPdu}
+use Rattle.request_header.specs.declared.Limits.{Limits}
+use Rattle.request_header.specs.Request.{readPdu}
 use Rattle.request_header.specs.Request as Read
 use Rattle.request_header.proofs.Reading.{got-long}
 use Rattle.window.specs.Book as W
 use Rattle.book.specs.Book.{Offered, denied, atOnce, numbered, offeredAs, OpenConnection, live, Book, Outputs, noOutputs, Call, offer, take, Choice, refused, immediate, step, connOf, byWindow, onConnection, lending, offerBy, bookStep}
 use Rattle.session_state.proofs.Steps.{reach-open}
 
-pub offer-eq : (b : Book) (c t : ℕ) (p : List ℕ) (x : Choice) → bookStep b (offer c t p) x ≡ onConnection b c noOutputs (λ k. offerBy b c t p (offeredAs (readPdu (k .limits) p)))
+pub offer-eq : (b : Book) (c t : ℕ) (p : List ℕ) (x : Choice)
+    → bookStep b (offer c t p) x ≡ onConnection b c noOutputs (λ k. offerBy b c t p (offeredAs (readPdu (k .limits) p)))
 unfolding bookStep
 offer-eq b c t p x = refl
 
@@ -20,10 +22,10 @@ pub take-eq : (b : Book) (o : Outputs) (x : Choice) → bookStep b (take o) x �
 unfolding bookStep
 take-eq b o x = refl
 
-pub offer-live : (b : Book) (c t : ℕ) (p : List ℕ) (k : OpenConnection) (y : Offered) (x : Choice) → c < 4 → connOf b c ≡ live k → k .limits ≡ limits
-    → y ≡ offeredAs (readPdu limits p) → bookStep b (offer c t p) x ≡ offerBy b c t p y
+pub offer-live : (b : Book) (c t : ℕ) (p : List ℕ) (k : OpenConnection) (m : Limits) (y : Offered) (x : Choice) → c < 4 → connOf b c ≡ live k → k .limits ≡ m
+    → y ≡ offeredAs (readPdu m p) → bookStep b (offer c t p) x ≡ offerBy b c t p y
 unfolding bookStep
-offer-live b c t p k y x l e m h = reach-open b c noOutputs (λ q. offerBy b c t p (offeredAs (readPdu (q .limits) p))) k l e ∙ rw (m, ← h)
+offer-live b c t p k m y x l e em h = reach-open b c noOutputs (λ q. offerBy b c t p (offeredAs (readPdu (q .limits) p))) k l e ∙ rw (em, ← h)
 
 pub offer-refused : (b : Book) (c t n : ℕ) (p : List ℕ) → offerBy b c t p (denied n) ≡ step (refused n) noOutputs b
 unfolding offerBy
@@ -37,9 +39,9 @@ pub offer-numbered : (b : Book) (c t n : ℕ) (p : List ℕ) → offerBy b c t p
 unfolding offerBy
 offer-numbered b c t n p = refl
 
-pub numbered-long : (p : List ℕ) (n : ℕ) → numbered n ≡ offeredAs (readPdu limits p) → 48 ≤ length p
-numbered-long p n e = go (readPdu limits p) refl e
+pub numbered-long : (m : Limits) (p : List ℕ) (n : ℕ) → numbered n ≡ offeredAs (readPdu m p) → 48 ≤ length p
+numbered-long m p n e = go (readPdu m p) refl e
   where
-    go : (r : Read.Answer) → readPdu limits p ≡ r → numbered n ≡ offeredAs r → 48 ≤ length p
+    go : (r : Read.Answer) → readPdu m p ≡ r → numbered n ≡ offeredAs r → 48 ≤ length p
     go (Read.refused k) q e = let z : _≡_ {A = ℕ} 0 1 = cc in absurd (omega arith)
-    go (Read.got x) q e = got-long limits p x q
+    go (Read.got x) q e = got-long m p x q

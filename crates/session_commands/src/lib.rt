@@ -3,7 +3,7 @@
 use field::be32;
 use field::flag;
 use refusal::Refusal;
-use request_header::LIMITS;
+use request_header::Limits;
 use request_refusal::refusal_before_field;
 use request_refusal::refusal_of;
 use request_rules::logout_ok;
@@ -12,6 +12,7 @@ use request_rules::scsi_command_ok;
 use request_rules::task_management_ok;
 use session_state::Reached;
 use session_state::Session;
+use session_state::limits_of;
 use session_state::reach;
 use store::HEADER_BYTES;
 use window::Taken;
@@ -22,7 +23,7 @@ ghost use mathlib.Core.Path.{_≡_};
 ghost use mathlib.Core.Bool.{_&&_};
 ghost use Prim.Native.Nat.{_≤_};
 ghost use lib.ListN.{length};
-ghost use Rattle.request_header.specs.Request.{limits, readPdu, requestOf};
+ghost use Rattle.request_header.specs.Request.{readPdu, requestOf};
 ghost use Rattle.request_header.specs.Verdicts.{fieldsOk};
 ghost use Rattle.window.specs.Agree.{commands};
 ghost use Rattle.ledger.specs.Agree.{Statuses};
@@ -62,14 +63,14 @@ pub struct TakeStep {
 }
 
 // Whether a header is of a kind that is offered and meets its rules; another kind is FIELD either way.
-fn is_offered(s: &[u8], op: u8) -> bool
+fn is_offered(s: &[u8], op: u8, limits: Limits) -> bool
     requires { ⌜ 48 ≤ length (now s) ⌝ }
     ensures { λ r. ⌜ r ≡ fieldsOk limits op (now (s .entry)) && isOffered (requestOf op (now (s .entry))) ⌝ }
 {
     match op {
         0x00 => nop_out_ok(s),
         0x01 => scsi_command_ok(s),
-        0x02 => task_management_ok(s, LIMITS),
+        0x02 => task_management_ok(s, limits),
         0x06 => logout_ok(s),
         _ => false,
     }
@@ -77,15 +78,15 @@ fn is_offered(s: &[u8], op: u8) -> bool
 
 // Reads an offered PDU: reading's refusals, FIELD for another kind, immediate where I is set, else numbered. Of its fields only these are
 // taken from the bytes.
-fn read_offer(pdu: &[u8]) -> Offered
+fn read_offer(pdu: &[u8], limits: Limits) -> Offered
     ensures { λ r. ⌜ offeredOf r ≡ offeredAs (readPdu limits (now (pdu .entry))) ⌝ }
 {
-    let f = refusal_before_field(pdu, LIMITS);
+    let f = refusal_before_field(pdu, limits);
     if f != 0 {
         return Offered::Refused(refusal_of(f));
     }
     let first = pdu[0];
-    if !is_offered(pdu, first % 64) {
+    if !is_offered(pdu, first % 64, limits) {
         return Offered::Refused(Refusal::Field);
     }
     if flag(first, 64) {
@@ -119,7 +120,7 @@ pub fn offer(
             answer: OfferAnswer::Refused(Refusal::Closed),
             window: w,
         },
-        Reached::Open(_) => match read_offer(pdu) {
+        Reached::Open(_) => match read_offer(pdu, limits_of(s, conn)) {
             Offered::Refused(f) => OfferStep {
                 answer: OfferAnswer::Refused(f),
                 window: w,

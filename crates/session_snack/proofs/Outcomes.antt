@@ -2,7 +2,8 @@
 use Prim.Native.Nat.{ℕ, _<_}
 use mathlib.Core.Path.{_≡_, refl, sym, ap, _∙_}
 use mathlib.Core.List.{List}
-use Rattle.request_header.specs.Request.{limits, readPdu}
+use Rattle.request_header.specs.declared.Limits.{Limits}
+use Rattle.request_header.specs.Request.{readPdu}
 use Rattle.ledger.specs.Book as L
 use Rattle.ledger.specs.Answer as LA
 use Rattle.book.specs.Book.{OpenConnection, live, Book, noOutputs, snack, Choice, Answer, refused, acknowledged, run, resent, step, connOf, onConnection, runStep, Asked, asked, deniedRun, from, snackBy, bookStep}
@@ -13,11 +14,11 @@ pub snack-eq : (b : Book) (c : ℕ) (p : List ℕ) (x : Choice)
 unfolding bookStep
 snack-eq b c p x = refl
 
-pub snack-live : (b : Book) (c : ℕ) (p : List ℕ) (k : OpenConnection) (y : Asked) (v : ℕ) (x : Choice) → c < 4 → connOf b c ≡ live k → k .limits ≡ limits → v ≡ b .given .level
-    → y ≡ asked v (readPdu limits p) → bookStep b (snack c p) x ≡ snackBy b (k .ledger) y
+pub snack-live : (b : Book) (c : ℕ) (p : List ℕ) (k : OpenConnection) (m : Limits) (y : Asked) (v : ℕ) (x : Choice)
+    → c < 4 → connOf b c ≡ live k → k .limits ≡ m → v ≡ b .given .level → y ≡ asked v (readPdu m p) → bookStep b (snack c p) x ≡ snackBy b (k .ledger) y
 unfolding bookStep
-snack-live b c p k y v x l e m ev h =
-    reach-open b c noOutputs (λ q. snackBy b (q .ledger) (asked (b .given .level) (readPdu (q .limits) p))) k l e ∙ rw (m, ← ev, ← h)
+snack-live b c p k m y v x l e em ev h =
+    reach-open b c noOutputs (λ q. snackBy b (q .ledger) (asked (b .given .level) (readPdu (q .limits) p))) k l e ∙ rw (em, ← ev, ← h)
 
 pub snack-refused : (b : Book) (q : L.LedgerBook) (n : ℕ) → snackBy b q (deniedRun n) ≡ step (refused n) noOutputs b
 unfolding snackBy

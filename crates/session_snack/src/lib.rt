@@ -3,18 +3,19 @@
 use field::be32;
 use ledger::Run;
 use refusal::Refusal;
-use request_header::LIMITS;
+use request_header::Limits;
 use request_refusal::refusal_before_field;
 use request_refusal::refusal_of;
 use request_rules::snack_ok;
 use session_state::Reached;
 use session_state::Session;
+use session_state::limits_of;
 use session_state::reach;
 ghost use mathlib.Core.Path.{_≡_};
 ghost use Prim.Native.Nat.{_≤_};
 ghost use lib.ListN.{length};
 ghost use Rattle.request_header.specs.declared.Request.the-variants as Request;
-ghost use Rattle.request_header.specs.Request.{limits, readPdu, snackOf};
+ghost use Rattle.request_header.specs.Request.{readPdu, snackOf};
 ghost use Rattle.window.specs.Agree.{Commands};
 ghost use Rattle.ledger.specs.Agree.{Statuses};
 ghost use Rattle.book.specs.Book.{Call, noOutputs, askedBy, asked};
@@ -49,10 +50,10 @@ fn run_in(level: u32, pdu: &[u8]) -> Asked
 }
 
 // Reads the PDU of a SNACK call: reading's refusals, FIELD for another kind.
-fn read_snack(level: u32, pdu: &[u8]) -> Asked
+fn read_snack(level: u32, pdu: &[u8], limits: Limits) -> Asked
     ensures { λ r. ⌜ askedOf r ≡ asked level (readPdu limits (now (pdu .entry))) ⌝ }
 {
-    let f = refusal_before_field(pdu, LIMITS);
+    let f = refusal_before_field(pdu, limits);
     if f != 0 {
         return Asked::Refused(refusal_of(f));
     }
@@ -69,7 +70,7 @@ pub fn snack(s: Session, conn: u32, pdu: &[u8]) -> SnackAnswer
     match reach(s, conn) {
         Reached::NoConn => SnackAnswer::Refused(Refusal::NoConn),
         Reached::Closed => SnackAnswer::Refused(Refusal::Closed),
-        Reached::Open(l) => match read_snack(s.level, pdu) {
+        Reached::Open(l) => match read_snack(s.level, pdu, limits_of(s, conn)) {
             Asked::Refused(f) => SnackAnswer::Refused(f),
             Asked::Run {
                 beg_run,

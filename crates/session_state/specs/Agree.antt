@@ -16,7 +16,7 @@ use Rattle.ledger.specs.Agree as LA
 use Rattle.ledger.specs.Agree.{Statuses, ledgerSlots}
 use Rattle.ledger.specs.Book.{isStatus}
 use Rattle.book.specs.declared.Given.{Given}
-use Rattle.book.specs.Book.{connections, OpenConnection, Connection, closed, live, Book, freshBook, Outputs, lent, Call, offer, take, logout, opening, send, acknowledge, snack, resend, ask, Answer, refused, immediate, opened, window, sent, acknowledged, run, resent, told, choiceOf, cmdSN, bookStep}
+use Rattle.book.specs.Book.{connections, OpenConnection, Connection, closed, live, Book, freshBook, Outputs, lent, Call, offer, take, logout, opening, send, acknowledge, snack, resend, transfer, ask, Answer, refused, immediate, opened, window, sent, acknowledged, run, resent, moved, told, choiceOf, cmdSN, bookStep}
 use Rattle.session_state.specs.declared.Conn.{Conn}
 use Rattle.session_state.specs.declared.Session.{Session}
 use Rattle.session_state.specs.After.{connAt}
@@ -83,10 +83,11 @@ Changes (offer c t p) n o s s' = WA.Puts (s .session .window) (cmdSN p) t (ListN
 Changes (take x) n o s s' = Unit {0}
 Changes (logout c r) n o s s' = Unit {0}
 Changes (opening c g) n o s s' = Unit {0}
-Changes (send c t r x) n o s s' = Stored (isStatus r) c n t o s s'
+Changes (send c t r y x) n o s s' = Stored (isStatus r) c n t o s s'
 Changes (acknowledge c e) n o s s' = Unit {0}
 Changes (snack c p) n o s s' = Unit {0}
-Changes (resend c m x) n o s s' = Unit {0}
+Changes (resend c m y x) n o s s' = Unit {0}
+Changes (transfer c y d) n o s s' = Unit {0}
 Changes (ask q) n o s s' = Unit {0}
 
 -- What an answer leaves as it was, of whatever state, also of one that stands for no book: a refusal leaves all, an answer
@@ -111,6 +112,7 @@ Stays call (sent n) s s' l o = Changes call n o s s'
 Stays call (acknowledged n) s s' l o = Unit {0}
 Stays call (run f n) s s' l o = s' ≡ s
 Stays call (resent t) s s' l o = s' ≡ s
+Stays call (moved a x) s s' l o = s' ≡ s
 Stays call (told r) s s' l o = s' ≡ s
 
 -- Of whatever state, the lent output keeps its length, and its bytes from 48 on: a header goes "into the first 48 bytes of the lent

@@ -2,11 +2,15 @@
 // struct by value and four arrays that the caller lends, each call only those that it touches: the window's headers and tickets, and
 // the headers and tickets of the statuses.
 use ledger::Ledger;
+use request_header::LIMITS;
+use request_header::Limits;
+use response_header::MAX_DATA;
 use window::CONNECTIONS;
 use window::CONNS;
 use window::Window;
 ghost use mathlib.Core.Path.{_≡_};
 ghost use Rattle.session_state.specs.After.{afterWindow, afterConn, afterLedger};
+ghost use Rattle.session_state.specs.Limits.{limitsOf, longestOf};
 ghost use Rattle.session_state.specs.Reach.{ReachesAt, Reaches};
 
 // A connection. Of one that is not open only that counts.
@@ -56,6 +60,20 @@ pub fn reach(s: Session, conn: u32) -> Reached
         3 => by_conn(conns[3]),
         _ => Reached::NoConn,
     }
+}
+
+// What PDUs on a connection are read by: the one place where reading gets its limits.
+pub fn limits_of(s: Session, conn: u32) -> Limits
+    ensures { λ r. ⌜ r ≡ limitsOf s conn ⌝ }
+{
+    LIMITS
+}
+
+// The longest data segment that is written on a connection.
+pub fn longest_of(s: Session, conn: u32) -> u32
+    ensures { λ r. ⌜ r ≡ longestOf s conn ⌝ }
+{
+    MAX_DATA
 }
 
 // The session with another window.

@@ -1,77 +1,105 @@
 -- The book's step at a send, an acknowledgement and a resend, by its outcome.
-use Prim.Native.Nat.{ℕ}
-use mathlib.Core.Path.{_≡_, refl, ap}
+use Prim.Native.Nat.{ℕ, _≤_, _<_}
+use mathlib.Core.Path.{_≡_, refl, sym, ap, _∙_}
 use mathlib.Core.Bool.{Bool, true, false}
 use mathlib.Core.List.{List, _++_}
 use native.Mathlib.Omega.{arith}
 use borrow.Author.Tests.{eq-eqb, ne-eqb}
-use lib.ListN.{drop}
-use Rattle.response_header.specs.Response.{maxData}
+use lib.ListN.{length, drop}
 use Rattle.response_header.specs.declared.Response.{Response}
+use Rattle.response_header.specs.declared.Response.the-variants as R
+use Rattle.task_book.specs.Record.{Record}
 use Rattle.window.specs.Book as W
 use Rattle.ledger.specs.Book as L
 use Rattle.ledger.specs.Agree as LA
 use Rattle.ledger.specs.Answer as Answers
 use Rattle.ledger.specs.declared.Renewal.{Renewal}
-use Rattle.book.specs.Book.{OpenConnection, withLedger, live, Book, Outputs, outputs, noOutputs, written, send, acknowledge, resend, Choice, refused, sent, acknowledged, resent, step, withConn, onConnection, lending, sendAs, sendBy, acknowledgeBy, renewal, shown, resendBy, bookStep}
+use Rattle.book.specs.Book.{OpenConnection, withLedger, live, Book, Outputs, outputs, noOutputs, written, send, acknowledge, resend, Choice, refused, sent, acknowledged, resent, step, withConn, onConnection, lending, sendAs, completed, isDue, sendBy, acknowledgeBy, connOf, renewal, shown, resendBy, bookStep}
+use Rattle.session_state.proofs.Steps.{lend-long, reach-open}
 
 -- ---- each call, by its connection
 
-pub send-eq : (b : Book) (c t : ℕ) (r : Response) (o : Outputs) (x : Choice) → bookStep b (send c t r o) x ≡ lending b o (onConnection b c o (sendBy b c t r o))
+pub send-eq : (b : Book) (c t : ℕ) (r : Response) (y : Record) (o : Outputs) (x : Choice)
+    → bookStep b (send c t r y o) x ≡ lending b o (onConnection b c o (sendBy b c t r y o))
 unfolding bookStep
-send-eq b c t r o x = refl
+send-eq b c t r y o x = refl
 
 pub acknowledge-eq : (b : Book) (c e : ℕ) (x : Choice) → bookStep b (acknowledge c e) x ≡ onConnection b c noOutputs (acknowledgeBy b c e)
 unfolding bookStep
 acknowledge-eq b c e x = refl
 
-pub resend-eq : (b : Book) (c n : ℕ) (o : Outputs) (x : Choice) → bookStep b (resend c n o) x ≡ lending b o (onConnection b c o (resendBy b n o))
+pub resend-eq : (b : Book) (c n : ℕ) (y : Record) (o : Outputs) (x : Choice)
+    → bookStep b (resend c n y o) x ≡ lending b o (onConnection b c o (resendBy b n y o))
 unfolding bookStep
-resend-eq b c n o x = refl
+resend-eq b c n y o x = refl
 
 -- ---- send
 
-module _ (b : Book) (c t : ℕ) (r : Response) (o : List ℕ) (k : OpenConnection) (limit : k .longest ≡ maxData) where
-  module _ (e m : ℕ) (x : List ℕ) (ee : e ≡ W.expCmdSN (b .window)) (em : m ≡ W.maxCmdSN (b .window))
-      (ex : x ≡ L.sendBytes (L.sending (k .ledger) maxData r) (L.headerFor (k .ledger) r e m) o) where
-    pub send-unstored : (n : ℕ) → L.notStored n ≡ L.sending (k .ledger) maxData r → sendBy b c t r (outputs o) k ≡ step (sent n) (outputs x) b
-    unfolding sendBy sendAs written L.sendBytes
-    send-unstored n s = rw (limit, ex, ee, em, ← s)
+module _ (b : Book) (c t : ℕ) (r : Response) (y : Record) (o : List ℕ) (k : OpenConnection) where
+  pub send-at : (x : Choice) → 48 ≤ length o → c < 4 → connOf b c ≡ live k → bookStep b (send c t r y (outputs o)) x ≡ sendBy b c t r y (outputs o) k
+  send-at x long near is = send-eq b c t r y (outputs o) x ∙ lend-long b (outputs o) _ long ∙ reach-open b c (outputs o) _ k near is
 
-    pub send-stored : (n : ℕ) → L.stored n ≡ L.sending (k .ledger) maxData r
-        → sendBy b c t r (outputs o) k ≡ step (sent n) (outputs x) (withConn b c (live (withLedger k (L.sent (k .ledger) (record { header = L.headerFor (k .ledger) r e m; ticket = t })))))
-    unfolding sendBy sendAs written L.sendBytes
-    send-stored n s = rw (limit, ex, ee, em, ← s)
+  -- max, due and w: the longest data, whether the response is due, and the response that is written, as the code has them
+  module _ (max : ℕ) (limit : k .longest ≡ max) (due : Bool) (is : due ≡ isDue y r) (w : Response) (whole : w ≡ completed y r) where
+    module _ (e m : ℕ) (x : List ℕ) (ee : e ≡ W.expCmdSN (b .window)) (em : m ≡ W.maxCmdSN (b .window))
+        (ex : x ≡ L.sendBytes (L.sending (k .ledger) max due w) (L.headerFor (k .ledger) w e m) o) where
+      pub send-unstored : (n : ℕ) → L.notStored n ≡ L.sending (k .ledger) max due w → sendBy b c t r y (outputs o) k ≡ step (sent n) (outputs x) b
+      unfolding sendBy sendAs written L.sendBytes
+      send-unstored n s = rw (limit, ex, ee, em, ← is, ← whole, ← s)
 
-  pub send-refused : (n : ℕ) → L.refused n ≡ L.sending (k .ledger) maxData r → sendBy b c t r (outputs o) k ≡ step (refused n) (outputs o) b
-  unfolding sendBy sendAs
-  send-refused n e = rw (limit, ← e)
+      pub send-stored : (n : ℕ) → L.stored n ≡ L.sending (k .ledger) max due w
+          → sendBy b c t r y (outputs o) k
+          ≡ step (sent n) (outputs x) (withConn b c (live (withLedger k (L.sent (k .ledger) (record { header = L.headerFor (k .ledger) w e m; ticket = t })))))
+      unfolding sendBy sendAs written L.sendBytes
+      send-stored n s = rw (limit, ex, ee, em, ← is, ← whole, ← s)
+
+    pub send-refused : (n : ℕ) → L.refused n ≡ L.sending (k .ledger) max due w → sendBy b c t r y (outputs o) k ≡ step (refused n) (outputs o) b
+    unfolding sendBy sendAs
+    send-refused n e = rw (limit, ← is, ← whole, ← e)
+
+-- what is written is a status where the response that was given is one
+status-same : (y : Record) (r : Response) → L.isStatus (completed y r) ≡ L.isStatus r
+status-same y (R.NopIn x) = refl
+status-same y (R.ScsiResponse x) = refl
+status-same y (R.TaskManagementResponse x) = refl
+status-same y (R.LoginResponse x) = refl
+status-same y (R.DataIn x) = refl
+status-same y (R.LogoutResponse x) = refl
+status-same y (R.R2t x) = refl
+status-same y (R.Reject x) = refl
+
+pub status-given : (y : Record) (r w : Response) (s : Bool) → w ≡ completed y r → L.isStatus w ≡ s → L.isStatus r ≡ s
+status-given y r w s e q = sym (status-same y r) ∙ ap L.isStatus (sym e) ∙ q
 
 -- ---- resend
 
-module _ (b : Book) (o : List ℕ) (x : Renewal) where
-  pub shown-missing : (f : L.Found) (y : List ℕ) → _≡_ {A = LA.Showing} (record { answer = Answers.refused 12; bytes = y }) (LA.showing f x o)
-      → shown b (outputs o) f ≡ step (refused 12) (outputs o) b
+module _ (b : Book) (y : Record) (o : List ℕ) (x : Renewal) where
+  pub shown-missing : (f : L.Found) (z : List ℕ) → _≡_ {A = LA.Showing} (record { answer = Answers.refused 12; bytes = z }) (LA.showing f x o)
+      → shown b y (outputs o) f ≡ step (refused 12) (outputs o) b
   unfolding shown LA.showing
-  shown-missing L.missing y q = refl
-  shown-missing (L.found s) y q = let z : _≡_ {A = ℕ} 0 1 = cc (ap (λ (w : LA.Showing). w .answer) q) in absurd (omega arith)
+  shown-missing L.missing z q = refl
+  shown-missing (L.found s) z q = let v : _≡_ {A = ℕ} 0 1 = cc (ap (λ (w : LA.Showing). w .answer) q) in absurd (omega arith)
 
-  pub shown-found : (f : L.Found) (t : ℕ) (y : List ℕ) → _≡_ {A = LA.Showing} (record { answer = Answers.resent t; bytes = y }) (LA.showing f x o)
-      → x ≡ renewal b → shown b (outputs o) f ≡ step (resent t) (outputs y) b
+  pub shown-found : (f : L.Found) (t : ℕ) (z : List ℕ) → _≡_ {A = LA.Showing} (record { answer = Answers.resent t; bytes = z }) (LA.showing f x o)
+      → x ≡ renewal b y → shown b y (outputs o) f ≡ step (resent t) (outputs z) b
   unfolding shown written LA.showing
-  shown-found L.missing t y q e = let z : _≡_ {A = ℕ} 0 1 = cc (ap (λ (w : LA.Showing). w .answer) q) in absurd (omega arith)
-  shown-found (L.found s) t y q e =
+  shown-found L.missing t z q e = let v : _≡_ {A = ℕ} 0 1 = cc (ap (λ (w : LA.Showing). w .answer) q) in absurd (omega arith)
+  shown-found (L.found s) t z q e =
       let qt : t ≡ s .ticket = cc (ap (λ (w : LA.Showing). w .answer) q) in
-      let qy : y ≡ L.renewed (s .header) x ++ drop 48 o = ap (λ (w : LA.Showing). w .bytes) q in
-      rw (qt, qy, e)
+      let qz : z ≡ L.renewed (s .header) x ++ drop 48 o = ap (λ (w : LA.Showing). w .bytes) q in
+      rw (qt, qz, e)
 
-pub resend-none : (b : Book) (n : ℕ) (o : Outputs) (k : OpenConnection) → b .given .level ≡ 0 → resendBy b n o k ≡ step (refused 12) o b
-unfolding resendBy
-resend-none b n o k e = rw (eq-eqb (b .given .level) 0 e)
+module _ (b : Book) (c n : ℕ) (y : Record) (o : List ℕ) (x : Choice) (k : OpenConnection) (long : 48 ≤ length o) (near : c < 4) (is : connOf b c ≡ live k) where
+  resend-at : bookStep b (resend c n y (outputs o)) x ≡ resendBy b n y (outputs o) k
+  resend-at = resend-eq b c n y (outputs o) x ∙ lend-long b (outputs o) _ long ∙ reach-open b c (outputs o) _ k near is
 
-pub resend-some : (b : Book) (n : ℕ) (o : Outputs) (k : OpenConnection) → (b .given .level ≡ 0 → ⊥) → resendBy b n o k ≡ shown b o (L.statusOf (k .ledger) n)
-unfolding resendBy
-resend-some b n o k e = rw (ne-eqb (b .given .level) 0 e)
+  pub resend-none : b .given .level ≡ 0 → bookStep b (resend c n y (outputs o)) x ≡ step (refused 12) (outputs o) b
+  unfolding resendBy
+  resend-none e = resend-at ∙ rw (eq-eqb (b .given .level) 0 e)
+
+  pub resend-some : (b .given .level ≡ 0 → ⊥) → bookStep b (resend c n y (outputs o)) x ≡ shown b y (outputs o) (L.statusOf (k .ledger) n)
+  unfolding resendBy
+  resend-some e = resend-at ∙ rw (ne-eqb (b .given .level) 0 e)
 
 -- ---- acknowledge
 

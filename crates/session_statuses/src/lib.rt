@@ -9,12 +9,16 @@ use ledger::Renewal;
 use ledger::Resent;
 use ledger::Sent;
 use refusal::Refusal;
-use response_header::MAX_DATA;
 use response_header::Response;
 use session_state::Reached;
 use session_state::Session;
+use session_state::longest_of;
 use session_state::reach;
 use store::HEADER_BYTES;
+use task::Task;
+ghost use Prim.Native.Nat.{ℕ};
+ghost use mathlib.Core.List.{List};
+ghost use Rattle.task.specs.Agree.{recordOf};
 ghost use Rattle.window.specs.Agree.{Commands};
 ghost use Rattle.ledger.specs.Agree.{Statuses, statusesIn};
 ghost use Rattle.book.specs.Book.{Call, outputs, noOutputs};
@@ -41,18 +45,20 @@ pub enum ResendAnswer {
 }
 
 // Sends a response with its ticket on a connection: its header, with the next StatSN and both window numbers, into the
-// first 48 bytes of out. BUFFER, NOCONN, CLOSED, writing's refusals, FULL.
+// first 48 bytes of out. A SCSI Response has its ExpDataSN from the record t. BUFFER, NOCONN, CLOSED, writing's refusals, FIELD for a Data-In, an
+// R2T, or a SCSI Response whose ITT or SNACK tag isn't the record's, FULL.
 pub fn send(
     s: Session,
     conn: u32,
     ticket: u32,
     r: Response,
+    t: Task,
     out: &mut [u8],
     statuses: &mut [u8; LEDGER_BYTES],
     status_tickets: &mut [u32; LEDGER_SLOTS],
 ) -> SendAnswer
-    ensures { λ x. ⌜ ((k : Commands)
-        → Did (Call.send conn ticket r (outputs (now (out .entry))))
+    ensures { λ x. ⌜ ((k : Commands) (tags ends : List ℕ)
+        → Did (Call.send conn ticket r (recordOf t tags ends) (outputs (now (out .entry))))
         (state s k (statusesIn (now (statuses .entry)) (now («status_tickets» .entry))))
         (sendAnswer x) (outputs (now (out .exit)))
         (state (afterSend s conn x) k (statusesIn (now (statuses .exit)) (now («status_tickets» .exit))))) ⌝ }
@@ -68,12 +74,18 @@ pub fn send(
             let e = window::exp_cmd_sn(w);
             let m = window::max_cmd_sn(w);
             let c = conn as usize;
+            let n = t.numbering;
+            let g = t.given;
+            let whole = session_task::completed(r, n);
+            let due = session_task::is_due(r, g.initiator_task_tag, n.snack_tag);
+            let longest = longest_of(s, conn);
             match ledger_send::send(
                 l,
                 c,
                 ticket,
-                r,
-                MAX_DATA,
+                whole,
+                longest,
+                due,
                 e,
                 m,
                 out,
@@ -109,18 +121,19 @@ pub fn acknowledge(s: Session, conn: u32, exp_stat_sn: u32) -> AcknowledgeAnswer
     }
 }
 
-// Resends a held status of a connection, with its ticket: its header, with the window numbers of now, into the first 48
-// bytes of out. BUFFER, NOCONN, CLOSED, SNACK at level 0 or where the number is not held.
+// Resends a held status of a connection, with its ticket: its header, with the window numbers of now and, of a SCSI Response, what the record t has of
+// its task, into the first 48 bytes of out. BUFFER, NOCONN, CLOSED, SNACK at level 0 or where the number is not held.
 pub fn resend(
     s: Session,
     conn: u32,
     stat_sn: u32,
+    t: Task,
     statuses: &[u8; LEDGER_BYTES],
     status_tickets: &[u32; LEDGER_SLOTS],
     out: &mut [u8],
 ) -> ResendAnswer
-    ensures { λ x. ⌜ ((k : Commands)
-        → Did (Call.resend conn «stat_sn» (outputs (now (out .entry))))
+    ensures { λ x. ⌜ ((k : Commands) (tags ends : List ℕ)
+        → Did (Call.resend conn «stat_sn» (recordOf t tags ends) (outputs (now (out .entry))))
         (state s k (statusesIn (now (statuses .entry)) (now («status_tickets» .entry))))
         (resendAnswer x) (outputs (now (out .exit)))
         (state s k (statusesIn (now (statuses .entry)) (now («status_tickets» .entry))))) ⌝ }
@@ -136,14 +149,16 @@ pub fn resend(
                 return ResendAnswer::Refused(Refusal::Snack);
             }
             let w = s.window;
+            let numbering = t.numbering;
             let renewal = Renewal {
                 exp_cmd_sn: window::exp_cmd_sn(w),
                 max_cmd_sn: window::max_cmd_sn(w),
+                numbering: numbering,
             };
             let c = conn as usize;
             match ledger_held::resend(l, c, stat_sn, renewal, statuses, status_tickets, out) {
                 Resent::NotHeld => ResendAnswer::Refused(Refusal::Snack),
-                Resent::Status(t) => ResendAnswer::Resent(t),
+                Resent::Status(ticket) => ResendAnswer::Resent(ticket),
             }
         }
     }

@@ -23,8 +23,9 @@ unfolding requestOf
 returns-4 c = rw (c .before .match .keys4, and-true) (c .logout-ok .ensures _)
 
 returns-5 : tie.Need-returns-5
-returns-5 c = let n = c .match .rest in not-offered (c .before .before .args .s .now) _ (n .0 .0 .0 .1) (n .0 .0 .1) (n .0 .1) (n .1)
+returns-5 c = let n = c .match .rest in not-offered _ (c .before .before .args .s .now) _ (n .0 .0 .0 .1) (n .0 .0 .1) (n .0 .1) (n .1)
 
 pub is-offered-spec : {M : Type 1} → statement M
 is-offered-spec =
-    tie.close (tie.spec (λ c κs. search needs) (λ c κs. search needs) (λ c κs. search needs) (λ c κs. search needs) returns returns-2 returns-3 returns-4 returns-5)
+    tie.close (tie.spec
+    (λ c κs. search needs) (λ c κs. search needs) (λ c κs. search needs) (λ c κs. search needs) returns returns-2 returns-3 returns-4 returns-5)

@@ -3,7 +3,8 @@ use Prim.Native.Nat.{_≤_}
 use mathlib.Core.Path.{sym, refl, _∙_}
 use mathlib.Core.List.{[]}
 use borrow.Author.Needs.{needs}
-use Rattle.request_header.specs.Request.{limits}
+use lib.ListN.{take}
+use Rattle.window.specs.Book as W
 use Rattle.book.specs.Book.{noOutputs}
 use Rattle.book.proofs.Small.{offered-number}
 use Rattle.session_state.proofs.Steps.{met, as-lent, refusing, reach-none, reach-closed, open-at, by-window}
@@ -13,9 +14,10 @@ use Rattle.session_commands.proofs.offer.Tie as tie
 
 offer-requires : tie.Need-offer-requires
 offer-requires c κs =
-    let i = rw (c .before .before .before .before .before .before .enum-told3 .given .1) at (c .before .before .before .before .before .before .before .before .reach .ensures) in
-    let n = rw (c .before .before .before .n .given .1) at (c .before .before .before .before .before .read-offer .ensures) in
-    (i .near, numbered-long _ _ n)
+    let q = c .before .before .before .before .before in
+    let i = rw (q .before .before .enum-told3 .given .1) at (q .before .before .before .before .reach .ensures) in
+    let n = rw (c .before .before .before .n .given .1) at (q .read-offer .ensures) in
+    (i .near, numbered-long _ _ _ n)
 
 returns : tie.Need-returns
 returns c ss =
@@ -31,38 +33,46 @@ returns-2 c ss =
 
 returns-3 : tie.Need-returns-3
 returns-3 c ss =
-    let a = c .before .before .before .before .before .before .before .before .before .args in
-    let i = rw (c .before .before .before .before .enum-told3 .given .1) at (c .before .before .before .before .before .before .reach .ensures) in
-    let n = rw (c .before .f .given .1) at (c .before .before .before .read-offer .ensures) in
+    let q = c .before .before .before in
+    let a = q .before .before .before .before .before .before .before .args in
+    let i = rw (q .before .before .enum-told3 .given .1) at (q .before .before .before .before .reach .ensures) in
+    let n = rw (c .before .f .given .1, q .before .limits-of .ensures) at (q .read-offer .ensures) in
     refusing _ _ _ noOutputs refl (λ b g.
     let v = open-at _ b (a .conn) _ g i in
-    offer-live b (a .conn) (a .ticket) (a .pdu .now) (v .book) _ _ (v .near) (v .is) (v .agrees .limits) n ∙ offer-refused b (a .conn) (a .ticket) _ (a .pdu .now))
+    offer-live b (a .conn) (a .ticket) (a .pdu .now) (v .book) _ _ _ (v .near) (v .is) (v .agrees .limits) n
+    ∙ offer-refused b (a .conn) (a .ticket) _ (a .pdu .now))
 
 returns-4 : tie.Need-returns-4
 returns-4 c ss =
-    let a = c .before .before .before .before .before .before .before .before .args in
-    let i = rw (c .before .before .before .enum-told3 .given .1) at (c .before .before .before .before .before .reach .ensures) in
-    let n = rw (c .enum-told4 .given .1) at (c .before .before .read-offer .ensures) in
+    let q = c .before .before in
+    let a = q .before .before .before .before .before .before .before .args in
+    let i = rw (q .before .before .enum-told3 .given .1) at (q .before .before .before .before .reach .ensures) in
+    let n = rw (c .enum-told4 .given .1, q .before .limits-of .ensures) at (q .read-offer .ensures) in
     record {
       meets = λ b g.
           let v = open-at _ b (a .conn) _ g i in
-          met _ _ _ _ _ b b (offer-live b (a .conn) (a .ticket) (a .pdu .now) (v .book) _ _ (v .near) (v .is) (v .agrees .limits) n ∙ offer-immediate b (a .conn) (a .ticket) (a .pdu .now)) g;
+          met _ _ _ _ _ b b
+          (offer-live b (a .conn) (a .ticket) (a .pdu .now) (v .book) _ _ _ (v .near) (v .is) (v .agrees .limits) n
+          ∙ offer-immediate b (a .conn) (a .ticket) (a .pdu .now)) g;
       stays = refl;
       keeps = as-lent refl;
     }
 
 returns-5 : tie.Need-returns-5
 returns-5 c ss =
-    let a = c .before .before .before .before .before .before .before .before .before .before .before .before .before .args in
-    let i = rw (c .before .before .before .before .before .before .before .before .enum-told3 .given .1) at (c .before .before .before .before .before .before .before .before .before .before .reach .ensures) in
-    let n = rw (c .before .before .before .before .before .n .given .1) at (c .before .before .before .before .before .before .before .read-offer .ensures) in
-    by-window _ _ (a .s) ss _ _ _ [] refl (λ k. rw (offered-number limits (a .pdu .now) _ (sym n)) at k) (c .before .offer .ensures) (λ b g.
+    let q = c .before .before .before .before .before .before .before in
+    let a = q .before .before .before .before .before .before .before .args in
+    let i = rw (q .before .before .enum-told3 .given .1) at (q .before .before .before .before .reach .ensures) in
+    let n = rw (c .before .before .before .before .before .n .given .1, q .before .limits-of .ensures) at (q .read-offer .ensures) in
+    by-window _ (W.offer _ (a .ticket) (a .conn) (take 48 (a .pdu .now))) (a .s) ss _ _ _ [] refl
+    (λ k. rw (offered-number _ (a .pdu .now) _ (sym n)) at k) (c .before .offer .ensures) (λ b g.
     let v = open-at _ b (a .conn) _ g i in
-    offer-live b (a .conn) (a .ticket) (a .pdu .now) (v .book) _ _ (v .near) (v .is) (v .agrees .limits) n ∙ offer-numbered b (a .conn) (a .ticket) _ (a .pdu .now))
+    offer-live b (a .conn) (a .ticket) (a .pdu .now) (v .book) _ _ _ (v .near) (v .is) (v .agrees .limits) n
+    ∙ offer-numbered b (a .conn) (a .ticket) _ (a .pdu .now))
 
 pub offer-spec : {M : Type 1} → statement M
 offer-spec =
     tie.close (tie.spec
-    (λ c κs. search needs) (λ c. search needs) (λ c. search needs) (λ c. search needs) (λ c κs. search needs)
+    (λ c κs. search needs) (λ c. search needs) (λ c. search needs) (λ c. search needs) (λ c κs. search needs) (λ c κs. search needs)
     (λ c. search needs) (λ c. search needs) (λ c. search needs) offer-requires returns returns-2 returns-3 returns-4
     returns-5)

@@ -24,7 +24,7 @@ is-offered-requires c κs = long-past _ _ (c .before .before .refusal-before-fie
 returns-2 : tie.Need-returns-2
 returns-2 c =
     let z = c .before .before .before in
-    offered-as _ (z .before .refusal-before-field .ensures) (z .if1 .left) (c .before .is-offered .ensures) (not-true _ (c .if2 .taken))
+    offered-as _ _ (z .before .refusal-before-field .ensures) (z .if1 .left) (c .before .is-offered .ensures) (not-true _ (c .if2 .taken))
 
 be32-requires : tie.Need-be32-requires
 be32-requires c κs =
@@ -36,14 +36,14 @@ returns-3 : tie.Need-returns-3
 returns-3 c =
     let n = c .before .before in
     let z = n .before .before .before in
-    let o = offered-as _ (z .before .refusal-before-field .ensures) (z .if1 .left) (n .before .is-offered .ensures) (not-false _ (n .if2 .left)) in
+    let o = offered-as _ _ (z .before .refusal-before-field .ensures) (z .if1 .left) (n .before .is-offered .ensures) (not-false _ (n .if2 .left)) in
     rw (sym (c .before .flag .ensures) ∙ c .if3 .taken) at o
 
 returns-4 : tie.Need-returns-4
 returns-4 c =
     let n = c .before .before .before in
     let z = n .before .before .before in
-    let o = offered-as _ (z .before .refusal-before-field .ensures) (z .if1 .left) (n .before .is-offered .ensures) (not-false _ (n .if2 .left)) in
+    let o = offered-as _ _ (z .before .refusal-before-field .ensures) (z .if1 .left) (n .before .is-offered .ensures) (not-false _ (n .if2 .left)) in
     rw (c .be32 .ensures) (rw (sym (c .before .before .flag .ensures) ∙ c .before .if3 .left) at o)
 
 pub read-offer-spec : {M : Type 1} → statement M

@@ -23,7 +23,7 @@ snack-ok-requires c κs = long-past _ _ (c .before .before .refusal-before-field
 returns-2 : tie.Need-returns-2
 returns-2 c =
     let z = c .before .before .before in
-    not-asked _ _ (z .before .refusal-before-field .ensures) (z .if1 .left) (c .before .snack-ok .ensures _) _ refl (c .if2 .taken)
+    not-asked _ _ _ (z .before .refusal-before-field .ensures) (z .if1 .left) (c .before .snack-ok .ensures _) _ refl (c .if2 .taken)
 
 run-in-requires : tie.Need-run-in-requires
 run-in-requires c κs = long-past _ _ (c .before .before .before .before .refusal-before-field .ensures) (c .before .before .before .if1 .left)
@@ -32,7 +32,7 @@ returns-3 : tie.Need-returns-3
 returns-3 c =
     let z = c .before .before .before .before in
     c .run-in .ensures
-    ∙ snack-asked _ _ (z .before .refusal-before-field .ensures) (z .if1 .left) (c .before .before .snack-ok .ensures _) _ refl (c .before .if2 .left)
+    ∙ snack-asked _ _ _ (z .before .refusal-before-field .ensures) (z .if1 .left) (c .before .before .snack-ok .ensures _) _ refl (c .before .if2 .left)
 
 pub read-snack-spec : {M : Type 1} → statement M
 read-snack-spec =

@@ -23,34 +23,39 @@ returns-2 c k ss =
 
 returns-3 : tie.Need-returns-3
 returns-3 c k ss =
-    let a = c .before .before .before .before .before .before .before .before .before .args in
-    let i = rw (c .before .before .before .before .before .l .given .1) at (c .before .before .before .before .before .before .before .reach .ensures) in
-    let w = rw (c .before .f .given .1) at (c .before .before .before .read-snack .ensures) in
+    let q = c .before .before .before in
+    let a = q .before .before .before .before .before .before .before .args in
+    let i = rw (q .before .before .before .l .given .1) at (q .before .before .before .before .before .reach .ensures) in
+    let w = rw (c .before .f .given .1, q .before .limits-of .ensures) at (q .read-snack .ensures) in
     refusing _ _ _ noOutputs refl (λ b g.
     let v = open-at (state (a .s) k ss) b (a .conn) _ g i in
-    snack-live b (a .conn) (a .pdu .now) (v .book) _ (a .s .level) _ (v .near) (v .is) (v .agrees .limits) (g .level) w ∙ snack-refused b (v .book .ledger) _)
+    snack-live b (a .conn) (a .pdu .now) (v .book) _ _ (a .s .level) _ (v .near) (v .is) (v .agrees .limits) (g .level) w
+    ∙ snack-refused b (v .book .ledger) _)
 
 returns-4 : tie.Need-returns-4
 returns-4 c k ss =
-    let a = c .before .before .before .before .before .before .before .before .before .before .before .before .args in
-    let i = rw (c .before .before .before .before .before .before .before .before .l .given .1) at (c .before .before .before .before .before .before .before .before .before .before .reach .ensures) in
-    let w = rw (c .before .before .before .before .beg-run .given .1) at (c .before .before .before .before .before .before .read-snack .ensures) in
+    let q = c .before .before .before .before .before .before in
+    let a = q .before .before .before .before .before .before .before .args in
+    let i = rw (q .before .before .before .l .given .1) at (q .before .before .before .before .before .reach .ensures) in
+    let w = rw (c .before .before .before .before .beg-run .given .1, q .before .limits-of .ensures) at (q .read-snack .ensures) in
     refusing _ _ 12 noOutputs refl (λ b g.
     let v = open-at (state (a .s) k ss) b (a .conn) _ g i in
     let r = rw (c .enum-told3 .given .1) at (c .before .before .run-of .ensures (a .conn) ss (v .book .ledger) (v .agrees .ledger)) in
-    snack-live b (a .conn) (a .pdu .now) (v .book) _ (a .s .level) _ (v .near) (v .is) (v .agrees .limits) (g .level) w ∙ snack-run b (v .book .ledger) _ _ _ r)
+    snack-live b (a .conn) (a .pdu .now) (v .book) _ _ (a .s .level) _ (v .near) (v .is) (v .agrees .limits) (g .level) w
+    ∙ snack-run b (v .book .ledger) _ _ _ r)
 
 returns-5 : tie.Need-returns-5
 returns-5 c k ss =
-    let a = c .before .before .before .before .before .before .before .before .before .before .before .before .before .args in
-    let i = rw (c .before .before .before .before .before .before .before .before .before .l .given .1) at (c .before .before .before .before .before .before .before .before .before .before .before .reach .ensures) in
-    let w = rw (c .before .before .before .before .before .beg-run .given .1) at (c .before .before .before .before .before .before .before .read-snack .ensures) in
+    let q = c .before .before .before .before .before .before .before in
+    let a = q .before .before .before .before .before .before .before .args in
+    let i = rw (q .before .before .before .l .given .1) at (q .before .before .before .before .before .reach .ensures) in
+    let w = rw (c .before .before .before .before .before .beg-run .given .1, q .before .limits-of .ensures) at (q .read-snack .ensures) in
     record {
       meets = λ b g.
           let v = open-at (state (a .s) k ss) b (a .conn) _ g i in
           let r = rw (c .before .first .given .1) at (c .before .before .before .run-of .ensures (a .conn) ss (v .book .ledger) (v .agrees .ledger)) in
           met _ _ _ _ _ b b
-          (snack-live b (a .conn) (a .pdu .now) (v .book) _ (a .s .level) _ (v .near) (v .is) (v .agrees .limits) (g .level) w
+          (snack-live b (a .conn) (a .pdu .now) (v .book) _ _ (a .s .level) _ (v .near) (v .is) (v .agrees .limits) (g .level) w
           ∙ snack-run b (v .book .ledger) _ _ _ r) g;
       stays = refl;
       keeps = as-lent refl;
@@ -59,6 +64,6 @@ returns-5 c k ss =
 pub snack-spec : {M : Type 1} → statement M
 snack-spec =
     tie.close (tie.spec
-    (λ c κs. search needs) (λ c. search needs) (λ c. search needs) (λ c. search needs) (λ c κs. search needs)
+    (λ c κs. search needs) (λ c. search needs) (λ c. search needs) (λ c. search needs) (λ c κs. search needs) (λ c κs. search needs)
     (λ c. search needs) (λ c. search needs) (λ c κs. search needs) (λ c. search needs) (λ c. search needs) returns
     returns-2 returns-3 returns-4 returns-5)

@@ -1,0 +1,52 @@
+-- `session_data_out::read_data_out` meets its contract: reading's refusals pass through, and past those before FIELD only a Data-Out brings data.
+use Prim.Native.Nat.{ℕ}
+use mathlib.Core.Path.{refl, sym, ap, _∙_}
+use borrow.Author.Needs.{needs}
+use Rattle.request_header.proofs.FieldRules.{refused-before, refused-number, long-past}
+use Rattle.request_refusal.proofs.OneKind.{denied, granted}
+use Rattle.task_book.specs.Steps.{refuse}
+use Rattle.task.specs.Agree.{recordOf}
+use Rattle.session_data_out.specs.Reading.{dataOutRead}
+use Rattle.session_data_out.proofs.Outcomes.{data-out-other, data-out-good}
+use Rattle.session_data_out.proofs.read_data_out.Statement.{statement}
+use Rattle.session_data_out.proofs.read_data_out.Tie as tie
+
+returns : tie.Need-returns
+returns c =
+    let a = c .before .before .before .before .args in
+    let x = recordOf (a .t) (a .tags .now) (a .ends .now) in
+    let e = refused-before _ _ (c .before .before .refusal-before-field .ensures) (c .before .if1 .taken) in
+    ap (λ (n : ℕ). refuse n x) (refused-number _ _ e (c .refusal-of .ensures)) ∙ sym (ap (dataOutRead x) e)
+
+shared-slice-read-if2 : tie.Need-shared-slice-read-if2
+shared-slice-read-if2 c =
+    let long = long-past _ _ (c .before .before .refusal-before-field .ensures) (c .before .if1 .left) in
+    search (needs, long)
+
+data-out-ok-requires : tie.Need-data-out-ok-requires
+data-out-ok-requires c κs = long-past _ _ (c .before .before .refusal-before-field .ensures) (c .before .if1 .left)
+
+returns-2 : tie.Need-returns-2
+returns-2 c =
+    let z = c .before .before .before in
+    let a = z .before .before .before .args in
+    let x = recordOf (a .t) (a .tags .now) (a .ends .now) in
+    denied (dataOutRead x) _ (a .pdu .now) 0x05 (z .before .refusal-before-field .ensures) (z .if1 .left) (c .before .data-out-ok .ensures _)
+    (λ o k h. data-out-other x (a .pdu .now) o h) _ refl (c .if2 .taken)
+
+data-out-in-requires : tie.Need-data-out-in-requires
+data-out-in-requires c κs = long-past _ _ (c .before .before .before .before .refusal-before-field .ensures) (c .before .before .before .if1 .left)
+
+returns-3 : tie.Need-returns-3
+returns-3 c =
+    let z = c .before .before .before .before in
+    let a = z .before .before .before .args in
+    let x = recordOf (a .t) (a .tags .now) (a .ends .now) in
+    c .data-out-in .ensures ∙ data-out-good x (a .pdu .now)
+    ∙ granted (dataOutRead x) _ (a .pdu .now) 0x05 (z .before .refusal-before-field .ensures) (z .if1 .left) (c .before .before .data-out-ok .ensures _)
+    _ refl (c .before .if2 .left)
+
+pub read-data-out-spec : {M : Type 1} → statement M
+read-data-out-spec =
+    tie.close (tie.spec
+    (λ c κs. search needs) (λ c κs. search needs) returns shared-slice-read-if2 data-out-ok-requires returns-2 data-out-in-requires returns-3)

@@ -1,0 +1,150 @@
+// What comes to a session for a task's data: a Data-Out with data that was asked for, and a SNACK for data that was sent. No call has a
+// requirement of its caller: they refuse. They change nothing in the session; what is new of the task's record is in the answer.
+use field::be32;
+use field::flag;
+use refusal::Refusal;
+use request_header::DataOut;
+use request_header::Limits;
+use request_header::Snack;
+use request_header::lengths::data_length;
+use request_refusal::refusal_before_field;
+use request_refusal::refusal_of;
+use request_rules::data_out_ok;
+use request_rules::snack_ok;
+use session_state::Reached;
+use session_state::Session;
+use session_state::limits_of;
+use session_state::reach;
+use task::DataOutAnswer;
+use task::DataSnackAnswer;
+use task::OPEN_PLACES;
+use task::Task;
+ghost use mathlib.Core.Path.{_≡_};
+ghost use mathlib.Core.List.{List};
+ghost use Prim.Native.Nat.{ℕ, _≤_};
+ghost use lib.ListN.{length};
+ghost use Rattle.field.specs.Field.{beAt};
+ghost use Rattle.request_header.specs.Request.{readPdu, dataOutOf, snackOf, dataLengthOf};
+ghost use Rattle.task_book.specs.Steps.{dataOutStep, dataSnackStep};
+ghost use Rattle.task.specs.Agree.{recordOf, dataOutStepOf, dataSnackStepOf};
+ghost use Rattle.window.specs.Agree.{Commands};
+ghost use Rattle.ledger.specs.Agree.{Statuses};
+ghost use Rattle.book.specs.Book.{Call, Transfer, noOutputs};
+ghost use Rattle.session_state.specs.Agree.{Did, state};
+ghost use Rattle.session_state.specs.Transfer.{transferred};
+ghost use Rattle.session_data_out.specs.Reading.{dataOutRead, dataSnackRead};
+
+// What a good Data-Out brings: its fields, and where the task's record has its data.
+fn data_out_in(
+    t: Task,
+    tags: &[u32; OPEN_PLACES],
+    ends: &[u64; OPEN_PLACES],
+    pdu: &[u8],
+) -> DataOutAnswer
+    requires { ⌜ 48 ≤ length (now pdu) ⌝ }
+    ensures { λ r. ⌜ dataOutStepOf t (now (tags .entry)) (now (ends .entry)) r
+        ≡ dataOutStep (recordOf t (now (tags .entry)) (now (ends .entry))) (beAt (now (pdu .entry)) 16 4) (dataOutOf (now (pdu .entry)))
+        (dataLengthOf (now (pdu .entry))) ⌝ }
+{
+    let p = DataOut {
+        is_final: flag(pdu[1], 128),
+        target_transfer_tag: be32(pdu, 20),
+        data_sn: be32(pdu, 36),
+        buffer_offset: be32(pdu, 40),
+    };
+    let initiator_task_tag = be32(pdu, 16);
+    let length = data_length(pdu) as u32;
+    task_out::data_out(t, tags, ends, initiator_task_tag, p, length)
+}
+
+// Reads a PDU that should be a Data-Out for a task: reading's refusals, FIELD for another kind, then FIELD as the task's record has it.
+fn read_data_out(
+    limits: Limits,
+    t: Task,
+    tags: &[u32; OPEN_PLACES],
+    ends: &[u64; OPEN_PLACES],
+    pdu: &[u8],
+) -> DataOutAnswer
+    ensures { λ r. ⌜ dataOutStepOf t (now (tags .entry)) (now (ends .entry)) r
+        ≡ dataOutRead (recordOf t (now (tags .entry)) (now (ends .entry))) (readPdu limits (now (pdu .entry))) ⌝ }
+{
+    let f = refusal_before_field(pdu, limits);
+    if f != 0 {
+        return DataOutAnswer::Refused(refusal_of(f));
+    }
+    if (pdu[0] % 64 != 0x05) | !data_out_ok(pdu) {
+        return DataOutAnswer::Refused(Refusal::Field);
+    }
+    data_out_in(t, tags, ends, pdu)
+}
+
+// Takes a Data-Out that came on a connection for a task: where its data lies, and what is open then. NOCONN, CLOSED, reading's refusals, FIELD.
+pub fn data_out(
+    s: Session,
+    conn: u32,
+    t: Task,
+    tags: &[u32; OPEN_PLACES],
+    ends: &[u64; OPEN_PLACES],
+    pdu: &[u8],
+) -> DataOutAnswer
+    ensures { λ r. ⌜ ((k : Commands) (ss : Statuses)
+        → Did (Call.transfer conn (recordOf t (now (tags .entry)) (now (ends .entry))) (Transfer.dataOut (now (pdu .entry))))
+        (state s k ss) (transferred (dataOutStepOf t (now (tags .entry)) (now (ends .entry)) r)) noOutputs (state s k ss)) ⌝ }
+{
+    match reach(s, conn) {
+        Reached::NoConn => DataOutAnswer::Refused(Refusal::NoConn),
+        Reached::Closed => DataOutAnswer::Refused(Refusal::Closed),
+        Reached::Open(_) => {
+            let limits = limits_of(s, conn);
+            read_data_out(limits, t, tags, ends, pdu)
+        }
+    }
+}
+
+// What a good SNACK asks for of a task's data, by its fields.
+fn data_snack_in(level: u32, t: Task, offset: u32, pdu: &[u8]) -> DataSnackAnswer
+    requires { ⌜ 48 ≤ length (now pdu) ⌝ }
+    ensures { λ r. ⌜ ((tags ends : List ℕ) → dataSnackStepOf t tags ends r
+        ≡ dataSnackStep (recordOf t tags ends) level (beAt (now (pdu .entry)) 16 4) offset (snackOf (now (pdu .entry)))) ⌝ }
+{
+    let p = Snack {
+        snack_type: pdu[1] % 16,
+        target_transfer_tag: be32(pdu, 20),
+        beg_run: be32(pdu, 40),
+        run_length: be32(pdu, 44),
+    };
+    let initiator_task_tag = be32(pdu, 16);
+    task_snack::data_snack(t, level, initiator_task_tag, offset, p)
+}
+
+// Reads a PDU that should be a SNACK for a task's data: reading's refusals, FIELD for another kind, then FIELD and SNACK as the task's record has it.
+fn read_data_snack(limits: Limits, level: u32, t: Task, offset: u32, pdu: &[u8]) -> DataSnackAnswer
+    ensures { λ r. ⌜ ((tags ends : List ℕ) → dataSnackStepOf t tags ends r
+        ≡ dataSnackRead (recordOf t tags ends) level offset (readPdu limits (now (pdu .entry)))) ⌝ }
+{
+    let f = refusal_before_field(pdu, limits);
+    if f != 0 {
+        return DataSnackAnswer::Refused(refusal_of(f));
+    }
+    if (pdu[0] % 64 != 0x10) | !snack_ok(pdu) {
+        return DataSnackAnswer::Refused(Refusal::Field);
+    }
+    data_snack_in(level, t, offset, pdu)
+}
+
+// A SNACK that came on a connection for a task's data: the run that it asks for, or how many numbers it acknowledges; the offset is where the data begins
+// that is sent anew. NOCONN, CLOSED, reading's refusals, FIELD, SNACK.
+pub fn data_snack(s: Session, conn: u32, t: Task, offset: u32, pdu: &[u8]) -> DataSnackAnswer
+    ensures { λ r. ⌜ ((k : Commands) (ss : Statuses) (tags ends : List ℕ)
+        → Did (Call.transfer conn (recordOf t tags ends) (Transfer.dataSnack offset (now (pdu .entry))))
+        (state s k ss) (transferred (dataSnackStepOf t tags ends r)) noOutputs (state s k ss)) ⌝ }
+{
+    match reach(s, conn) {
+        Reached::NoConn => DataSnackAnswer::Refused(Refusal::NoConn),
+        Reached::Closed => DataSnackAnswer::Refused(Refusal::Closed),
+        Reached::Open(_) => {
+            let limits = limits_of(s, conn);
+            read_data_snack(limits, s.level, t, offset, pdu)
+        }
+    }
+}
