@@ -1,8 +1,9 @@
 -- A session's answer as four words: what came, and its values, 0 where it has none; and as one number, where it has one value at most.
 use Prim.Native.Nat.{ℕ, _%_, _/_, _^_}
 use mathlib.Core.List.{List, [], _∷_}
+use Rattle.task_book.specs.Steps as T
 use Rattle.window.specs.Book as W
-use Rattle.book.specs.Book.{Reply, numbers, nextIs, holding, lengthIs, Answer, refused, immediate, opened, window, sent, acknowledged, run, resent, told}
+use Rattle.book.specs.Book.{Reply, numbers, nextIs, holding, lengthIs, Answer, refused, immediate, opened, window, sent, acknowledged, run, resent, moved, told}
 
 -- the connection that a command came on; 4 where it has none
 abbrev pub originWord : W.Origin → ℕ
@@ -33,6 +34,16 @@ replyWords (nextIs n) = 32 ∷ n ∷ 0 ∷ 0 ∷ []
 replyWords (holding h) = holderWords h
 replyWords (lengthIs n) = 0 ∷ n ∷ 0 ∷ 0 ∷ []
 
+-- a transfer: 32 for a header that is written, and with their place, their count and the R2Ts still open for data that came; 43 for a run, 44 for numbers
+-- that are acknowledged
+abbrev pub movedWords : T.Answer → List ℕ
+movedWords (T.refused n) = n ∷ 0 ∷ 0 ∷ 0 ∷ []
+movedWords (T.dataIn h) = 32 ∷ 0 ∷ 0 ∷ 0 ∷ []
+movedWords (T.r2t h) = 32 ∷ 0 ∷ 0 ∷ 0 ∷ []
+movedWords (T.came f n k) = 32 ∷ f ∷ n ∷ k ∷ []
+movedWords (T.run f n) = 43 ∷ f ∷ n ∷ 0 ∷ []
+movedWords (T.acknowledged n) = 44 ∷ n ∷ 0 ∷ 0 ∷ []
+
 -- a refusal's number; 32 for what is done; 33 to 40 for kept, duplicate, passed, beyond, immediate, nothing, void and a command
 abbrev pub answerWords : Answer → List ℕ
 answerWords (refused n) = n ∷ 0 ∷ 0 ∷ 0 ∷ []
@@ -43,6 +54,7 @@ answerWords (sent n) = 32 ∷ n ∷ 0 ∷ 0 ∷ []
 answerWords (acknowledged n) = 32 ∷ n ∷ 0 ∷ 0 ∷ []
 answerWords (run f n) = 32 ∷ f ∷ n ∷ 0 ∷ []
 answerWords (resent t) = 32 ∷ t ∷ 0 ∷ 0 ∷ []
+answerWords (moved a x) = movedWords a
 answerWords (told r) = replyWords r
 
 -- an answer of one value at most, as one number: what came, and above its 32 bits the value

@@ -19,7 +19,8 @@ ghost use Rattle.session_snack.specs.Answer.{snackAnswer};
 ghost use Rattle.refusal.specs.Refusal.{number};
 ghost use Rattle.window.specs.Agree.{originOf};
 ghost use Rattle.window.specs.Book as W;
-ghost use Rattle.answer_words.specs.Answer.{originWord, answerWords, packed};
+ghost use Rattle.task_book.specs.Steps as T;
+ghost use Rattle.answer_words.specs.Answer.{originWord, movedWords, answerWords, packed};
 
 // A header was read or written, or its length told.
 const OK: u32 = 0;
@@ -45,6 +46,10 @@ const COMMAND: u32 = 40;
 const FREE: u32 = 41;
 
 const HELD: u32 = 42;
+
+const RUN: u32 = 43;
+
+const ACKNOWLEDGED: u32 = 44;
 
 pub fn refused(f: Refusal) -> [u32; 4]
     ensures { λ w. ⌜ w ≡ answerWords (Answer.refused (number f)) ⌝ }
@@ -157,4 +162,25 @@ pub fn length(a: LengthAnswer) -> u64
         LengthAnswer::Refused(f) => pack_refused(f),
         LengthAnswer::Whole(n) => pack(OK, n),
     }
+}
+
+// Data that came: its place, its count, and how many R2Ts are open after it.
+pub fn came(offset: u32, count: u32, open_count: u32) -> [u32; 4]
+    ensures { λ w. ⌜ w ≡ movedWords (T.came offset count «open_count») ⌝ }
+{
+    [DONE, offset, count, open_count]
+}
+
+// The run that a data SNACK asks for, or that is sent anew.
+pub fn data_run(first: u32, count: u32) -> [u32; 4]
+    ensures { λ w. ⌜ w ≡ movedWords (T.run first count) ⌝ }
+{
+    [RUN, first, count, 0]
+}
+
+// How many numbers a DataACK newly acknowledges.
+pub fn data_acknowledged(count: u32) -> [u32; 4]
+    ensures { λ w. ⌜ w ≡ movedWords (T.acknowledged count) ⌝ }
+{
+    [ACKNOWLEDGED, count, 0, 0]
 }

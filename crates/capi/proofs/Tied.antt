@@ -10,14 +10,21 @@ use denote.Triple.Clauses.{AtExit}
 use Rattle.window.specs.Agree.{Commands, commands}
 use Rattle.ledger.specs.Agree.{Statuses, statusesIn}
 use Rattle.book.specs.declared.Given.{Given}
-use Rattle.book.specs.Book.{Book, Outputs, outputs, noOutputs, lent, Call, offer, take, logout, opening, send, acknowledge, snack, resend, ask, Question, windowNumbers, nextStatSN, holder, wholeLength, Answer, refused, Step, choiceOf, freshBook}
+use Rattle.book.specs.Book.{Book, Outputs, outputs, noOutputs, lent, Call, offer, take, logout, opening, send, acknowledge, snack, resend, Transfer, dataIn, r2t, dataOut, dataSnack, transfer, ask, Question, windowNumbers, nextStatSN, holder, wholeLength, Answer, refused, Step, choiceOf, freshBook}
 use Rattle.book.specs.Events.{Event, event, turnsOf}
 use Rattle.book.specs.Demand.{Demand3}
+use Rattle.book.specs.Tasks.{OnTask}
+use Rattle.task_book.specs.declared.TaskGiven.{TaskGiven}
+use Rattle.task_book.specs.Record.{Record, making, made}
+use Rattle.task_book.specs.History as T
+use Rattle.task_book.specs.Sentences.{DataPhases}
 use Rattle.book.proofs.Sentences.{demand3-booked}
+use Rattle.book.proofs.Tasks.{tasks-booked}
 use Rattle.response_words.specs.ResponseWords.{responseOf}
 use Rattle.session_state.specs.Agree.{State, Agrees, Did}
 use Rattle.session_state.specs.History.{Ran, Booked, history}
 use Rattle.answer_words.specs.Answer.{answerWords, packed}
+use Rattle.task_words.specs.TaskWords.{taskWords, recordIn}
 use Rattle.capi.specs.Given.{openingOf, givenOf}
 use Rattle.capi.specs.Session.{SessionWords, sessionWords, stateOf, Asked, calls, sendsUnfit, sends, SaidBy, LeavesWords, unfitStep}
 use Rattle.capi.specs.History.{askedStep, AskedEvent, askedEvent, Spoken, spoken, inWords, bookSays, bookThen, andCalls, callsIn}
@@ -39,6 +46,14 @@ use Rattle.capi.proofs.calls.drawbevel_core_snack.Reads as snack-r
 use Rattle.capi.proofs.calls.drawbevel_core_snack.Kinds as snack-k
 use Rattle.capi.proofs.calls.drawbevel_core_resend.Reads as resend-r
 use Rattle.capi.proofs.calls.drawbevel_core_resend.Kinds as resend-k
+use Rattle.capi.proofs.transfers.drawbevel_core_data_in.Reads as data-in-r
+use Rattle.capi.proofs.transfers.drawbevel_core_data_in.Kinds as data-in-k
+use Rattle.capi.proofs.transfers.drawbevel_core_r2t.Reads as r2t-r
+use Rattle.capi.proofs.transfers.drawbevel_core_r2t.Kinds as r2t-k
+use Rattle.capi.proofs.transfers.drawbevel_core_data_out.Reads as data-out-r
+use Rattle.capi.proofs.transfers.drawbevel_core_data_out.Kinds as data-out-k
+use Rattle.capi.proofs.transfers.drawbevel_core_data_snack.Reads as data-snack-r
+use Rattle.capi.proofs.transfers.drawbevel_core_data_snack.Kinds as data-snack-k
 use Rattle.capi.proofs.questions.drawbevel_core_window.Reads as window-r
 use Rattle.capi.proofs.questions.drawbevel_core_window.Kinds as window-k
 use Rattle.capi.proofs.questions.drawbevel_core_next.Reads as next-r
@@ -110,17 +125,21 @@ pub record ByOpen (d : Done) : Type 1 where
       (sessionWords (now (a .0)) (now (a .1 .0)) commands-left statuses-left) (packed r) noOutputs
       (sessionWords (now (s .0)) (now (s .1 .0)) commands-left statuses-left)
 
--- A call of `drawbevel_core_send`: a are its arguments, r its result, s its parameters at exit.
+-- A call of `drawbevel_core_send`: a are its arguments, r its result, s its parameters at exit. tags and ends are the open R2Ts of the record, which it
+-- isn't lent.
 pub record BySend (d : Done) : Type 1 where
-  pub κs : Lifetimes.Lfts 6
-  pub a : K.Dens {n = 6} κs send-k.ps
+  pub κs : Lifetimes.Lfts 8
+  pub a : K.Dens {n = 8} κs send-k.ps
   pub r : K.resT send-k.r κs .Denot
-  pub s : AtExit (K.endedOf 6 send-k.ps send-k.r) κs
+  pub s : AtExit (K.endedOf 8 send-k.ps send-k.r) κs
   pub learnt : send-r.Learnt κs a r s
   pub commands-left : Commands
-  pub is : d ≡ done (sends (responseOf (now (a .1 .1 .1 .1 .1 .1 .0))) (a .1 .1 .1 .1 .0) (a .1 .1 .1 .1 .1 .0) (outputs (now (a .1 .1 .1 .1 .1 .1 .1 .0))))
+  pub tags : List ℕ
+  pub ends : List ℕ
+  pub is : d ≡ done (sends (responseOf (now (a .1 .1 .1 .1 .1 .1 .1 .1 .0))) (a .1 .1 .1 .1 .1 .1 .0) (a .1 .1 .1 .1 .1 .1 .1 .0)
+      (recordIn (taskWords (now (a .1 .1 .1 .1 .0)) (now (a .1 .1 .1 .1 .1 .0)) tags ends)) (outputs (now (a .1 .1 .1 .1 .1 .1 .1 .1 .1 .0))))
       (sessionWords (now (a .0)) (now (a .1 .0)) commands-left (statusesIn (now (a .1 .1 .0)) (now (a .1 .1 .1 .0))))
-      (packed r) (outputs (now (s .1 .1 .1 .1 .1 .1 .1 .0)))
+      (packed r) (outputs (now (s .1 .1 .1 .1 .1 .1 .1 .1 .1 .0)))
       (sessionWords (now (s .0)) (now (s .1 .0)) commands-left (statusesIn (now (s .1 .1 .0)) (now (s .1 .1 .1 .0))))
 
 -- A call of `drawbevel_core_acknowledge`: a are its arguments, r its result, s its parameters at exit.
@@ -151,16 +170,81 @@ pub record BySnack (d : Done) : Type 1 where
 
 -- A call of `drawbevel_core_resend`: a are its arguments, r its result, s its parameters at exit.
 pub record ByResend (d : Done) : Type 1 where
-  pub κs : Lifetimes.Lfts 5
-  pub a : K.Dens {n = 5} κs resend-k.ps
+  pub κs : Lifetimes.Lfts 7
+  pub a : K.Dens {n = 7} κs resend-k.ps
   pub r : K.resT resend-k.r κs .Denot
-  pub s : AtExit (K.endedOf 5 resend-k.ps resend-k.r) κs
+  pub s : AtExit (K.endedOf 7 resend-k.ps resend-k.r) κs
   pub learnt : resend-r.Learnt κs a r s
   pub commands-left : Commands
-  pub is : d ≡ done (calls (resend (a .1 .1 .1 .1 .0) (a .1 .1 .1 .1 .1 .0) (outputs (now (a .1 .1 .1 .1 .1 .1 .0)))))
+  pub tags : List ℕ
+  pub ends : List ℕ
+  pub is : d ≡ done (calls (resend (a .1 .1 .1 .1 .1 .1 .0) (a .1 .1 .1 .1 .1 .1 .1 .0)
+      (recordIn (taskWords (now (a .1 .1 .1 .1 .0)) (now (a .1 .1 .1 .1 .1 .0)) tags ends)) (outputs (now (a .1 .1 .1 .1 .1 .1 .1 .1 .0)))))
       (sessionWords (now (a .0)) (now (a .1 .0)) commands-left (statusesIn (now (a .1 .1 .0)) (now (a .1 .1 .1 .0))))
-      (packed r) (outputs (now (s .1 .1 .1 .1 .1 .1 .0)))
+      (packed r) (outputs (now (s .1 .1 .1 .1 .1 .1 .1 .1 .0)))
       (sessionWords (now (a .0)) (now (a .1 .0)) commands-left (statusesIn (now (a .1 .1 .0)) (now (a .1 .1 .1 .0))))
+
+-- A call of `drawbevel_core_data_in`: a are its arguments, r its result, s its parameters at exit.
+pub record ByDataIn (d : Done) : Type 1 where
+  pub κs : Lifetimes.Lfts 5
+  pub a : K.Dens {n = 5} κs data-in-k.ps
+  pub r : K.resT data-in-k.r κs .Denot
+  pub s : AtExit (K.endedOf 5 data-in-k.ps data-in-k.r) κs
+  pub learnt : data-in-r.Learnt κs a r s
+  pub commands-left : Commands
+  pub statuses-left : Statuses
+  pub tags : List ℕ
+  pub ends : List ℕ
+  pub is : d ≡ done (calls (transfer (a .1 .1 .1 .1 .0) (recordIn (taskWords (now (a .1 .1 .0)) (now (a .1 .1 .1 .0)) tags ends))
+      (dataIn (a .1 .1 .1 .1 .1 .0) (a .1 .1 .1 .1 .1 .1 .0) (a .1 .1 .1 .1 .1 .1 .1 .0) (outputs (now (a .1 .1 .1 .1 .1 .1 .1 .1 .0))))))
+      (sessionWords (now (a .0)) (now (a .1 .0)) commands-left statuses-left) (packed r) (outputs (now (s .1 .1 .1 .1 .1 .1 .1 .1 .0)))
+      (sessionWords (now (a .0)) (now (a .1 .0)) commands-left statuses-left)
+
+-- A call of `drawbevel_core_r2t`: a are its arguments, r its result, s its parameters at exit.
+pub record ByR2T (d : Done) : Type 1 where
+  pub κs : Lifetimes.Lfts 7
+  pub a : K.Dens {n = 7} κs r2t-k.ps
+  pub r : K.resT r2t-k.r κs .Denot
+  pub s : AtExit (K.endedOf 7 r2t-k.ps r2t-k.r) κs
+  pub learnt : r2t-r.Learnt κs a r s
+  pub commands-left : Commands
+  pub statuses-left : Statuses
+  pub is : d ≡ done (calls (transfer (a .1 .1 .1 .1 .1 .1 .0)
+      (recordIn (taskWords (now (a .1 .1 .0)) (now (a .1 .1 .1 .0)) (now (a .1 .1 .1 .1 .0)) (now (a .1 .1 .1 .1 .1 .0))))
+      (r2t (a .1 .1 .1 .1 .1 .1 .1 .0) (a .1 .1 .1 .1 .1 .1 .1 .1 .0) (outputs (now (a .1 .1 .1 .1 .1 .1 .1 .1 .1 .0))))))
+      (sessionWords (now (a .0)) (now (a .1 .0)) commands-left statuses-left) (packed r) (outputs (now (s .1 .1 .1 .1 .1 .1 .1 .1 .1 .0)))
+      (sessionWords (now (a .0)) (now (a .1 .0)) commands-left statuses-left)
+
+-- A call of `drawbevel_core_data_out`: a are its arguments, r its result, s its parameters at exit.
+pub record ByDataOut (d : Done) : Type 1 where
+  pub κs : Lifetimes.Lfts 8
+  pub a : K.Dens {n = 8} κs data-out-k.ps
+  pub r : K.resT data-out-k.r κs .Denot
+  pub s : AtExit (K.endedOf 8 data-out-k.ps data-out-k.r) κs
+  pub learnt : data-out-r.Learnt κs a r s
+  pub commands-left : Commands
+  pub statuses-left : Statuses
+  pub is : d ≡ done (calls (transfer (a .1 .1 .1 .1 .1 .1 .0)
+      (recordIn (taskWords (now (a .1 .1 .0)) (now (a .1 .1 .1 .0)) (now (a .1 .1 .1 .1 .0)) (now (a .1 .1 .1 .1 .1 .0))))
+      (dataOut (now (a .1 .1 .1 .1 .1 .1 .1 .0)))))
+      (sessionWords (now (a .0)) (now (a .1 .0)) commands-left statuses-left) (now (s .1 .1 .1 .1 .1 .1 .1 .1 .0)) noOutputs
+      (sessionWords (now (a .0)) (now (a .1 .0)) commands-left statuses-left)
+
+-- A call of `drawbevel_core_data_snack`: a are its arguments, r its result, s its parameters at exit.
+pub record ByDataSnack (d : Done) : Type 1 where
+  pub κs : Lifetimes.Lfts 6
+  pub a : K.Dens {n = 6} κs data-snack-k.ps
+  pub r : K.resT data-snack-k.r κs .Denot
+  pub s : AtExit (K.endedOf 6 data-snack-k.ps data-snack-k.r) κs
+  pub learnt : data-snack-r.Learnt κs a r s
+  pub commands-left : Commands
+  pub statuses-left : Statuses
+  pub tags : List ℕ
+  pub ends : List ℕ
+  pub is : d ≡ done (calls (transfer (a .1 .1 .1 .1 .0) (recordIn (taskWords (now (a .1 .1 .0)) (now (a .1 .1 .1 .0)) tags ends))
+      (dataSnack (a .1 .1 .1 .1 .1 .0) (now (a .1 .1 .1 .1 .1 .1 .0)))))
+      (sessionWords (now (a .0)) (now (a .1 .0)) commands-left statuses-left) (now (s .1 .1 .1 .1 .1 .1 .1 .0)) noOutputs
+      (sessionWords (now (a .0)) (now (a .1 .0)) commands-left statuses-left)
 
 -- A call of `drawbevel_core_window`: a are its arguments, r its result, s its parameters at exit.
 pub record ByNumbers (d : Done) : Type 1 where
@@ -218,6 +302,13 @@ PutTo (nextStatSN c) d = ByNext d
 PutTo (holder n) d = ByHolder d
 PutTo (wholeLength p) d = ByLength d
 
+-- A transfer was asked of its own function.
+abbrev pub MovedBy : Transfer → Done → Type 1
+MovedBy (dataIn f a n o) d = ByDataIn d
+MovedBy (r2t t n o) d = ByR2T d
+MovedBy (dataOut p) d = ByDataOut d
+MovedBy (dataSnack o p) d = ByDataSnack d
+
 -- What was asked was asked of its own function: each case of `Call` has one, and words that are no response go to that of a send. The arrays
 -- that a function is not lent stay ("written by nobody else").
 abbrev pub CalledBy : Call → Done → Type 1
@@ -225,10 +316,11 @@ CalledBy (offer c t p) d = ByOffer d
 CalledBy (take o) d = ByTake d
 CalledBy (logout c r) d = ByLogout d
 CalledBy (opening c g) d = ByOpen d
-CalledBy (send c t r o) d = BySend d
+CalledBy (send c t r x o) d = BySend d
 CalledBy (acknowledge c e) d = ByAcknowledge d
 CalledBy (snack c p) d = BySnack d
-CalledBy (resend c n o) d = ByResend d
+CalledBy (resend c n x o) d = ByResend d
+CalledBy (transfer c x y) d = MovedBy y d
 CalledBy (ask q) d = PutTo q d
 
 abbrev pub AskedBy : Asked → Done → Type 1
@@ -250,7 +342,7 @@ abbrev pub SaidIt : Done → Type 0
 SaidIt d = SaidBy (d .asked) (d .before) (d .words) (d .out) (d .after)
 
 by-send : (d : Done) → BySend d → SaidIt d
-by-send d x = subst SaidIt (sym (x .is)) (x .learnt (x .commands-left))
+by-send d x = subst SaidIt (sym (x .is)) (x .learnt (x .commands-left) (x .tags) (x .ends))
 
 pub put-said : (q : Question) (d : Done) → PutTo q d → SaidIt d
 put-said windowNumbers d x = subst SaidIt (sym (x .is)) (x .learnt (x .commands-left) (x .statuses-left))
@@ -258,15 +350,22 @@ put-said (nextStatSN c) d x = subst SaidIt (sym (x .is)) (x .learnt (x .commands
 put-said (holder n) d x = subst SaidIt (sym (x .is)) (x .learnt (x .headers-left) (x .statuses-left))
 put-said (wholeLength p) d x = subst SaidIt (sym (x .is)) (x .learnt (x .words-left))
 
+pub moved-said : (t : Transfer) (d : Done) → MovedBy t d → SaidIt d
+moved-said (dataIn f a n o) d x = subst SaidIt (sym (x .is)) (x .learnt (x .commands-left) (x .statuses-left) (x .tags) (x .ends) .said)
+moved-said (r2t t n o) d x = subst SaidIt (sym (x .is)) (x .learnt (x .commands-left) (x .statuses-left) .said)
+moved-said (dataOut p) d x = subst SaidIt (sym (x .is)) (x .learnt (x .commands-left) (x .statuses-left) .said)
+moved-said (dataSnack o p) d x = subst SaidIt (sym (x .is)) (x .learnt (x .commands-left) (x .statuses-left) (x .tags) (x .ends) .said)
+
 pub called-said : (c : Call) (d : Done) → CalledBy c d → SaidIt d
 called-said (offer c t p) d x = subst SaidIt (sym (x .is)) (x .learnt (x .statuses-left))
 called-said (take o) d x = subst SaidIt (sym (x .is)) (x .learnt (x .statuses-left))
 called-said (logout c r) d x = subst SaidIt (sym (x .is)) (x .learnt (x .commands-left) (x .statuses-left))
 called-said (opening c g) d x = subst SaidIt (sym (x .is)) (x .learnt (x .commands-left) (x .statuses-left))
-called-said (send c t r o) d x = by-send d x
+called-said (send c t r y o) d x = by-send d x
 called-said (acknowledge c e) d x = subst SaidIt (sym (x .is)) (x .learnt (x .commands-left) (x .statuses-left))
 called-said (snack c p) d x = subst SaidIt (sym (x .is)) (x .learnt (x .commands-left) (x .statuses-left))
-called-said (resend c n o) d x = subst SaidIt (sym (x .is)) (x .learnt (x .commands-left))
+called-said (resend c n y o) d x = subst SaidIt (sym (x .is)) (x .learnt (x .commands-left) (x .tags) (x .ends))
+called-said (transfer c y z) d x = moved-said z d x
 called-said (ask q) d x = put-said q d x
 
 pub asked-said : (q : Asked) (d : Done) → AskedBy q d → SaidIt d
@@ -380,3 +479,10 @@ module _ (κs : Lifetimes.Lfts 6) (a : K.Dens {n = 6} κs fresh-k.ps) (w : K.res
   demand3 =
       let b = history (as-ran r) (freshBook given) (p .fresh .agrees) in
       subst (Demand3 given) (sym (b .events)) (demand3-booked given (turnsOf (callsIn (answered r))))
+
+  -- The data sentences of every task among them. What a transfer leaves in the words of its record is the record that it answered (`SaidOn`).
+  pub data-sentences : (t : TaskGiven) (n : ℕ) {x y : Record} {ts : List T.Event} → making t n ≡ made x
+      → OnTask (given .level) x (callsIn (answered r)) ts y → DataPhases t n ts
+  data-sentences t n {x} {y} {ts} m o =
+      let b = history (as-ran r) (freshBook given) (p .fresh .agrees) in
+      tasks-booked given (turnsOf (callsIn (answered r))) t n m (subst (λ (l : List Event). OnTask (given .level) x l ts y) (b .events) o)

@@ -9,12 +9,14 @@ use Rattle.window.specs.declared.Offered.the-variants as O
 use Rattle.window.specs.declared.Taken.{Taken}
 use Rattle.window.specs.declared.Taken.the-variants as T
 use Rattle.ledger.specs.Agree.{Statuses}
-use Rattle.book.specs.Book.{Outputs, Call, lent, Answer, refused, immediate, opened, window, sent, acknowledged, run, resent, told, fromWindow}
+use Rattle.book.specs.Book.{Outputs, Transfer, transfer, Call, lent, Answer, refused, immediate, opened, window, sent, acknowledged, run, resent, moved, told, fromWindow}
 use Rattle.session_state.specs.declared.Session.{Session}
 use Rattle.session_state.specs.Agree.{State, state, Did}
 use Rattle.session_words.specs.State.{sessionOf}
 use Rattle.answer_words.specs.Answer.{answerWords}
-use Rattle.capi.specs.Session.{SessionWords, sessionWords, stateOf, nothing, LeavesWords, Said}
+use Rattle.task_words.specs.TaskWords.{TaskWords, recordIn}
+use Rattle.transfer_words.specs.Moves.{Moves}
+use Rattle.capi.specs.Session.{SessionWords, sessionWords, stateOf, nothing, LeavesWords, Said, SaidOn}
 
 session-left : {call : Call} {s : State} {a : Answer} {o : Outputs} {x : Session} {k : Commands} {ss : Statuses}
     → Did call s a o (state x k ss) → state x k ss ≡ s → Did call s a o (state (s .session) k ss)
@@ -46,11 +48,26 @@ still (sent n) call s o d = tt
 still (acknowledged n) call s o d = tt
 still (run f n) call s o d = tt
 still (resent t) call s o d = tt
+still (moved a x) call s o d = tt
 still (told r) call s o d = tt
 
 pub shown-said : {call : Call} {s : SessionWords} {o : Outputs} {w : List ℕ} (a : Answer)
     → Did call (stateOf s) a o (stateOf s) → w ≡ answerWords a → Said call s w o s
 shown-said {call} {s} {o} a d e = record { answer = a; did = d; words = e; writes = nothing; stays = still a call s o d }
+
+-- a transfer
+pub said-on : {c : ℕ} {d : Transfer} {n m : List ℕ} {k : Commands} {ss : Statuses} {t t' : TaskWords} {w : List ℕ} {o : Outputs}
+    → Moves c d (state (sessionOf n m) k ss) t w o t' → SaidOn c d (sessionWords n m k ss) t w o t'
+said-on {c} {d} {n} {m} {k} {ss} {t} {t'} {w} {o} x = record {
+  said = record {
+    answer = x .answer;
+    did = x .did;
+    words = x .words;
+    writes = nothing;
+    stays = still (x .answer) (transfer c (recordIn t) d) (sessionWords n m k ss) o (x .did);
+  };
+  task = x .task;
+}
 
 -- what the window answers to an offer or a take is no refusal
 pub offered-moves : (a : Offered) (s s' : SessionWords) (l o : Outputs) → LeavesWords (fromWindow (WA.offerAnswer a)) s s' l o

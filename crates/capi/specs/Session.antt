@@ -7,9 +7,10 @@ use Rattle.window.specs.declared.Window.{Window}
 use Rattle.ledger.specs.Agree.{Statuses}
 use Rattle.ledger.specs.declared.Ledger.{Ledger}
 use Rattle.response_header.specs.declared.Response.{Response}
+use Rattle.task_book.specs.Record.{Record}
 use Rattle.book.specs.declared.Given.{Given}
 use Rattle.book.specs.declared.Opening.{Opening}
-use Rattle.book.specs.Book.{Book, Outputs, Call, offer, take, logout, opening, send, acknowledge, lent, Answer, refused, immediate, opened, window, sent, acknowledged, run, resent, told, Step, refuse, lending, onConnection}
+use Rattle.book.specs.Book.{Book, Outputs, Call, offer, take, logout, opening, send, acknowledge, Transfer, transfer, lent, Answer, refused, immediate, opened, window, sent, acknowledged, run, resent, moved, told, Step, refuse, lending, onConnection}
 use Rattle.session_state.specs.Agree.{State, state, Agrees, IsFresh, Did}
 use Rattle.session_state.specs.declared.Conn.{Conn}
 use Rattle.session_connections.specs.declared.Closes.{Closes}
@@ -18,6 +19,8 @@ use Rattle.response_words.specs.declared.FromWords.{FromWords}
 use Rattle.response_words.specs.declared.FromWords.the-variants as F
 use Rattle.session_words.specs.State.{sessionOf, windowNumbers, windowMaps, ledgerNumbers, connNumbers, shutNumbers, sessionNumbers}
 use Rattle.answer_words.specs.Answer.{answerWords}
+use Rattle.task_words.specs.TaskWords.{TaskWords, recordIn}
+use Rattle.transfer_words.specs.Moves.{TaskAfter}
 
 -- ---- a session between calls
 
@@ -49,7 +52,7 @@ pub data Writes : Call → (n m n' m' : List ℕ) → Type 0 where
   by-take : {o : Outputs} {n m : List ℕ} (w : Window) → Writes (take o) n m (windowNumbers w n) (windowMaps w)
   by-logout : {c r : ℕ} {n m : List ℕ} (w : Window) (k : Closes) → Writes (logout c r) n m (shutNumbers k c (windowNumbers w n)) (windowMaps w)
   by-opening : {c : ℕ} {g : Opening} {n m : List ℕ} (k : Conn) → Writes (opening c g) n m (connNumbers c k n) m
-  by-send : {c t : ℕ} {r : Response} {o : Outputs} {n m : List ℕ} (l : Ledger) → Writes (send c t r o) n m (ledgerNumbers c l n) m
+  by-send : {c t : ℕ} {r : Response} {x : Record} {o : Outputs} {n m : List ℕ} (l : Ledger) → Writes (send c t r x o) n m (ledgerNumbers c l n) m
   by-acknowledge : {c e : ℕ} {n m : List ℕ} (l : Ledger) → Writes (acknowledge c e) n m (ledgerNumbers c l n) m
 
 -- "A refusal .. changes nothing": every lent word and byte is the one that was lent.
@@ -62,6 +65,7 @@ LeavesWords (sent n) s s' l o = Unit {0}
 LeavesWords (acknowledged n) s s' l o = Unit {0}
 LeavesWords (run f n) s s' l o = Unit {0}
 LeavesWords (resent t) s s' l o = Unit {0}
+LeavesWords (moved a x) s s' l o = Unit {0}
 LeavesWords (told r) s s' l o = Unit {0}
 
 -- The contract of every call: it did as the session does, the words w are its answer's, and of the session's words it wrote what it says.
@@ -71,6 +75,13 @@ pub record Said (call : Call) (s : SessionWords) (w : List ℕ) (o : Outputs) (s
   pub words : w ≡ answerWords answer
   pub writes : Writes call (s .numbers) (s .maps) (s' .numbers) (s' .maps)
   pub stays : LeavesWords answer s s' (lent call) o
+
+-- ---- a transfer
+
+-- A transfer leaves the session's words; the words t of the record that it is given are t' after it.
+pub record SaidOn (c : ℕ) (d : Transfer) (s : SessionWords) (t : TaskWords) (w : List ℕ) (o : Outputs) (t' : TaskWords) : Type 0 where
+  pub said : Said (transfer c (recordIn t) d) s w o s
+  pub task : TaskAfter (said .answer) t t'
 
 -- ---- a send whose words are no response
 
@@ -92,10 +103,10 @@ pub data Asked : Type 0 where
   calls : Call → Asked
   sendsUnfit : (connection stated : ℕ) → (out : Outputs) → Asked
 
--- What a send asks, by what its words are.
-abbrev pub sends : FromWords → (connection ticket : ℕ) → (out : Outputs) → Asked
-sends (F.Response r) c t o = calls (send c t r o)
-sends (F.Unfit d) c t o = sendsUnfit c d o
+-- What a send asks, by what its words are, with the record that it is given.
+abbrev pub sends : FromWords → (connection ticket : ℕ) → Record → (out : Outputs) → Asked
+sends (F.Response r) c t x o = calls (send c t r x o)
+sends (F.Unfit d) c t x o = sendsUnfit c d o
 
 -- The contract of each.
 abbrev pub SaidBy : Asked → SessionWords → List ℕ → Outputs → SessionWords → Type 0

@@ -25,6 +25,7 @@ use session_words::store;
 use session_words::store_conn;
 use session_words::store_ledger;
 use session_words::store_window;
+use task::Task;
 ghost use mathlib.Core.Path.{_≡_};
 ghost use mathlib.Core.List.{List};
 ghost use Prim.Native.Nat.{ℕ};
@@ -34,6 +35,8 @@ ghost use Rattle.ledger.specs.Agree.{Statuses, statusesIn};
 ghost use Rattle.book.specs.Book.{Call, outputs, noOutputs};
 ghost use Rattle.answer_words.specs.Answer.{packed};
 ghost use Rattle.response_words.specs.ResponseWords.{responseOf};
+ghost use Rattle.task.specs.Agree.{recordOf};
+ghost use Rattle.task_words.specs.TaskWords.{taskWords, recordIn};
 ghost use Rattle.capi.specs.Given.{openingOf, givenOf};
 ghost use Rattle.capi.specs.Session.{sessionWords, FreshWords, Said, SaidUnfit, sends, SaidBy};
 
@@ -203,25 +206,29 @@ pub extern "C" fn drawbevel_core_snack(
     *answer = answer_words::run(a);
 }
 
-// Sends a held status again, its header with the current window numbers into the first 48 bytes of out.
+// Sends a held status again, its header with the current window numbers, and of a SCSI Response what it takes of the record, into the first 48
+// bytes of out.
 #[no_mangle]
 pub extern "C" fn drawbevel_core_resend(
     n: &[u32; 15],
     m: &[u64; 6],
     statuses: &[u8; 6144],
     status_tickets: &[u32; 128],
+    task: &[u32; 12],
+    wide: &[u64; 4],
     conn: u32,
     stat_sn: u32,
     out: &mut [u8],
 ) -> u64
-    ensures { λ r. ⌜ ((k : Commands)
-        → Said (Call.resend conn «stat_sn» (outputs (now (out .entry))))
+    ensures { λ r. ⌜ ((k : Commands) (tags ends : List ℕ)
+        → Said (Call.resend conn «stat_sn» (recordIn (taskWords (now (task .entry)) (now (wide .entry)) tags ends)) (outputs (now (out .entry))))
         (sessionWords (now (n .entry)) (now (m .entry)) k (statusesIn (now (statuses .entry)) (now («status_tickets» .entry))))
         (packed r) (outputs (now (out .exit)))
         (sessionWords (now (n .entry)) (now (m .entry)) k (statusesIn (now (statuses .entry)) (now («status_tickets» .entry))))) ⌝ }
 {
     let s = load(n, m);
-    let a = session_statuses::resend(s, conn, stat_sn, statuses, status_tickets, out);
+    let t = task_words::load(task, wide);
+    let a = session_statuses::resend(s, conn, stat_sn, t, statuses, status_tickets, out);
     answer_words::resent(a)
 }
 
@@ -230,19 +237,20 @@ fn send_known(
     m: &mut [u64; 6],
     statuses: &mut [u8; 6144],
     status_tickets: &mut [u32; 128],
+    t: Task,
     conn: u32,
     ticket: u32,
     r: Response,
     out: &mut [u8],
 ) -> u64
-    ensures { λ w. ⌜ ((k : Commands)
-        → Said (Call.send conn ticket r (outputs (now (out .entry))))
+    ensures { λ w. ⌜ ((k : Commands) (tags ends : List ℕ)
+        → Said (Call.send conn ticket r (recordOf t tags ends) (outputs (now (out .entry))))
         (sessionWords (now (n .entry)) (now (m .entry)) k (statusesIn (now (statuses .entry)) (now («status_tickets» .entry))))
         (packed w) (outputs (now (out .exit)))
         (sessionWords (now (n .exit)) (now (m .exit)) k (statusesIn (now (statuses .exit)) (now («status_tickets» .exit))))) ⌝ }
 {
     let s = load(n, m);
-    match session_statuses::send(s, conn, ticket, r, out, statuses, status_tickets) {
+    match session_statuses::send(s, conn, ticket, r, t, out, statuses, status_tickets) {
         SendAnswer::Refused(f) => answer_words::pack_refused(f),
         SendAnswer::Sent(stat_sn) => answer_words::pack(DONE, stat_sn),
         SendAnswer::Stored { stat_sn, ledger } => {
@@ -278,20 +286,23 @@ pub extern "C" fn drawbevel_core_send(
     m: &mut [u64; 6],
     statuses: &mut [u8; 6144],
     status_tickets: &mut [u32; 128],
+    task: &[u32; 12],
+    wide: &[u64; 4],
     conn: u32,
     ticket: u32,
     words: &[u64; 10],
     out: &mut [u8],
 ) -> u64
-    ensures { λ r. ⌜ ((k : Commands)
-        → SaidBy (sends (responseOf (now (words .entry))) conn ticket (outputs (now (out .entry))))
+    ensures { λ r. ⌜ ((k : Commands) (tags ends : List ℕ)
+        → SaidBy (sends (responseOf (now (words .entry))) conn ticket (recordIn (taskWords (now (task .entry)) (now (wide .entry)) tags ends)) (outputs (now (out .entry))))
         (sessionWords (now (n .entry)) (now (m .entry)) k (statusesIn (now (statuses .entry)) (now («status_tickets» .entry))))
         (packed r) (outputs (now (out .exit)))
         (sessionWords (now (n .exit)) (now (m .exit)) k (statusesIn (now (statuses .exit)) (now («status_tickets» .exit))))) ⌝ }
 {
     match response(words) {
         FromWords::Response(r) => {
-            send_known(n, m, statuses, status_tickets, conn, ticket, r, out)
+            let t = task_words::load(task, wide);
+            send_known(n, m, statuses, status_tickets, t, conn, ticket, r, out)
         }
         FromWords::Unfit(stated) => send_unfit(n, m, conn, stated, out.len()),
     }

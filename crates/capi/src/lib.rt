@@ -4,3 +4,4 @@ pub mod calls;
 pub mod logins;
 pub mod pdu;
 pub mod questions;
+pub mod transfers;

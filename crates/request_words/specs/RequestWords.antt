@@ -16,6 +16,7 @@ opcodeWord (Q.NopOut x) = 0x00
 opcodeWord (Q.ScsiCommand x) = 0x01
 opcodeWord (Q.TaskManagement x) = 0x02
 opcodeWord (Q.Login x) = 0x03
+opcodeWord (Q.DataOut x) = 0x05
 opcodeWord (Q.Logout x) = 0x06
 opcodeWord (Q.Snack x) = 0x10
 
@@ -28,6 +29,7 @@ ownWords (Q.ScsiCommand x) =
 ownWords (Q.TaskManagement x) = x .function ∷ x .«referenced_task_tag» ∷ x .«ref_cmd_sn» ∷ x .«exp_data_sn» ∷ 0 ∷ 0 ∷ 0 ∷ 0 ∷ 0 ∷ []
 ownWords (Q.Login x) =
     flagWord (x .transit) ∷ flagWord (x .continues) ∷ x .csg ∷ x .nsg ∷ x .«version_max» ∷ x .«version_min» ∷ x .isid ∷ x .tsih ∷ x .cid ∷ []
+ownWords (Q.DataOut x) = flagWord (x .«is_final») ∷ x .«target_transfer_tag» ∷ x .«data_sn» ∷ x .«buffer_offset» ∷ 0 ∷ 0 ∷ 0 ∷ 0 ∷ 0 ∷ []
 ownWords (Q.Logout x) = x .reason ∷ x .cid ∷ 0 ∷ 0 ∷ 0 ∷ 0 ∷ 0 ∷ 0 ∷ 0 ∷ []
 ownWords (Q.Snack x) = x .«snack_type» ∷ x .«target_transfer_tag» ∷ x .«beg_run» ∷ x .«run_length» ∷ 0 ∷ 0 ∷ 0 ∷ 0 ∷ 0 ∷ []
 

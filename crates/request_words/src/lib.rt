@@ -4,6 +4,7 @@ use request_header::Limits;
 use request_header::lengths::data_length;
 use request_header::lengths::data_start;
 use request_refusal::refusal_before_field;
+use request_rules::data_out_ok;
 use request_rules::login_ok;
 use request_rules::logout_ok;
 use request_rules::nop_out_ok;
@@ -133,6 +134,28 @@ fn login(s: &[u8], common: &mut [u64; 8], own: &mut [u64; 9]) -> u32
     0
 }
 
+fn data_out(s: &[u8], common: &mut [u64; 8], own: &mut [u64; 9]) -> u32
+    requires { ⌜ 48 ≤ length (now s) ⌝ }
+    ensures { λ r. ⌜ ((m : Limits) → _≡_ {A = ReadWords} (record { answer = r; common = now (common .exit); own = now (own .exit) }) (kindWords m 0x05 (now (s .entry)) (now (common .entry)) (now (own .entry)))) ⌝ }
+{
+    if !data_out_ok(s) {
+        return 3;
+    }
+    put_common(s, 0x05, 0, 0, be(s, 8, 8), common);
+    *own = [
+        bit_word(be(s, 1, 1), 128),
+        be(s, 20, 4),
+        be(s, 36, 4),
+        be(s, 40, 4),
+        0,
+        0,
+        0,
+        0,
+        0,
+    ];
+    0
+}
+
 fn logout(s: &[u8], common: &mut [u64; 8], own: &mut [u64; 9]) -> u32
     requires { ⌜ 48 ≤ length (now s) ⌝ }
     ensures { λ r. ⌜ ((m : Limits) → _≡_ {A = ReadWords} (record { answer = r; common = now (common .exit); own = now (own .exit) }) (kindWords m 0x06 (now (s .entry)) (now (common .entry)) (now (own .entry)))) ⌝ }
@@ -181,6 +204,7 @@ pub fn read(input: &[u8], limits: Limits, common: &mut [u64; 8], own: &mut [u64;
         0x01 => scsi_command(input, common, own),
         0x02 => task_management(input, limits, common, own),
         0x03 => login(input, common, own),
+        0x05 => data_out(input, common, own),
         0x06 => logout(input, common, own),
         _ => snack(input, common, own),
     }

@@ -10,13 +10,15 @@ use Rattle.response_header.specs.declared.NopIn.{NopIn}
 use Rattle.response_header.specs.declared.ScsiResponse.{ScsiResponse}
 use Rattle.response_header.specs.declared.TaskManagementResponse.{TaskManagementResponse}
 use Rattle.response_header.specs.declared.LoginResponse.{LoginResponse}
+use Rattle.response_header.specs.declared.DataIn.{DataIn}
 use Rattle.response_header.specs.declared.LogoutResponse.{LogoutResponse}
+use Rattle.response_header.specs.declared.R2t.{R2t}
 use Rattle.response_header.specs.declared.Reject.{Reject}
 use Rattle.response_header.specs.declared.Response.the-variants as R
 use Rattle.response_words.specs.declared.FromWords.{FromWords}
 use Rattle.response_words.specs.declared.FromWords.the-variants as F
 
--- ---- the six kinds: whether each word fits its field, and the response that the words are then
+-- ---- the eight kinds: whether each word fits its field, and the response that the words are then
 
 abbrev pub nopInFits : List ℕ → Bool
 nopInFits w = (fits w 32 1 && fits w 32 3) && fits w 32 4
@@ -35,7 +37,7 @@ nopInOf w = pick (nopInFits w) (F.Response (R.NopIn (nopInFields w))) (F.Unfit (
 abbrev pub scsiResponseFits : List ℕ → Bool
 scsiResponseFits w =
     ((fits w 1 1 && fits w 1 2) && (fits w 8 3 && fits w 8 4))
-    && ((fits w 32 5 && fits w 32 6) && (fits w 32 7 && fits w 32 8))
+    && ((fits w 32 5 && fits w 32 6) && ((fits w 32 7 && fits w 32 8) && fits w 32 9))
 
 abbrev scsiResponseFields : List ℕ → ScsiResponse
 scsiResponseFields w = record {
@@ -47,6 +49,7 @@ scsiResponseFields w = record {
   «initiator_task_tag» = word w 6;
   «snack_tag» = word w 7;
   «residual_count» = word w 8;
+  «exp_data_sn» = word w 9;
 }
 
 abbrev pub scsiResponseOf : List ℕ → FromWords
@@ -82,6 +85,26 @@ loginResponseFields w = record {
 abbrev pub loginResponseOf : List ℕ → FromWords
 loginResponseOf w = pick (loginResponseFits w) (F.Response (R.LoginResponse (loginResponseFields w))) (F.Unfit (word w 4))
 
+abbrev pub dataInFits : List ℕ → Bool
+dataInFits w =
+    ((fits w 1 1 && fits w 1 2) && (fits w 32 3 && fits w 32 5))
+    && ((fits w 32 6 && fits w 32 7) && fits w 32 8)
+
+abbrev dataInFields : List ℕ → DataIn
+dataInFields w = record {
+  «is_final» = isSet (word w 1);
+  acknowledge = isSet (word w 2);
+  «data_segment_length» = word w 3;
+  lun = word w 4;
+  «initiator_task_tag» = word w 5;
+  «target_transfer_tag» = word w 6;
+  «data_sn» = word w 7;
+  «buffer_offset» = word w 8;
+}
+
+abbrev pub dataInOf : List ℕ → FromWords
+dataInOf w = pick (dataInFits w) (F.Response (R.DataIn (dataInFields w))) (F.Unfit (word w 3))
+
 abbrev pub logoutResponseFits : List ℕ → Bool
 logoutResponseFits w = (fits w 8 1 && fits w 32 2) && (fits w 16 3 && fits w 16 4)
 
@@ -95,6 +118,22 @@ logoutResponseFields w = record {
 
 abbrev pub logoutResponseOf : List ℕ → FromWords
 logoutResponseOf w = pick (logoutResponseFits w) (F.Response (R.LogoutResponse (logoutResponseFields w))) (F.Unfit 0)
+
+abbrev pub r2tFits : List ℕ → Bool
+r2tFits w = (fits w 32 2 && fits w 32 3) && ((fits w 32 4 && fits w 32 5) && fits w 32 6)
+
+abbrev r2tFields : List ℕ → R2t
+r2tFields w = record {
+  lun = word w 1;
+  «initiator_task_tag» = word w 2;
+  «target_transfer_tag» = word w 3;
+  «r2t_sn» = word w 4;
+  «buffer_offset» = word w 5;
+  «desired_data_transfer_length» = word w 6;
+}
+
+abbrev pub r2tOf : List ℕ → FromWords
+r2tOf w = pick (r2tFits w) (F.Response (R.R2t (r2tFields w))) (F.Unfit 0)
 
 abbrev rejectFields : List ℕ → Reject
 rejectFields w = record { reason = word w 1 }
@@ -112,9 +151,11 @@ responseOf w =
     (pick (eqb (word w 0) 0x21) (scsiResponseOf w)
     (pick (eqb (word w 0) 0x22) (taskManagementResponseOf w)
     (pick (eqb (word w 0) 0x23) (loginResponseOf w)
+    (pick (eqb (word w 0) 0x25) (dataInOf w)
     (pick (eqb (word w 0) 0x26) (logoutResponseOf w)
+    (pick (eqb (word w 0) 0x31) (r2tOf w)
     (pick (eqb (word w 0) 0x3f) (rejectOf w)
-    (F.Unfit 0))))))
+    (F.Unfit 0))))))))
 
 -- Writing's refusal of words that are no response: "a data length above 8,192 is TOOLONG", "a value too wide for its place .. is FIELD", and
 -- so is a kind that none has.

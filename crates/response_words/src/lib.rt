@@ -1,8 +1,10 @@
 // The response that words are. A word too wide for its field makes them none: no word is cut.
 use refusal::Refusal;
+use response_header::DataIn;
 use response_header::LoginResponse;
 use response_header::LogoutResponse;
 use response_header::NopIn;
+use response_header::R2t;
 use response_header::Reject;
 use response_header::Response;
 use response_header::ScsiResponse;
@@ -10,7 +12,7 @@ use response_header::TaskManagementResponse;
 use response_header::judge::too_long;
 ghost use mathlib.Core.Path.{_≡_};
 ghost use Rattle.refusal.specs.Refusal.{number};
-ghost use Rattle.response_words.specs.ResponseWords.{nopInOf, scsiResponseOf, taskManagementResponseOf, loginResponseOf, logoutResponseOf, rejectOf, responseOf, unfitRefusal};
+ghost use Rattle.response_words.specs.ResponseWords.{nopInOf, scsiResponseOf, taskManagementResponseOf, loginResponseOf, dataInOf, logoutResponseOf, r2tOf, rejectOf, responseOf, unfitRefusal};
 
 // One more than the greatest value of a field of 32 bits, and of 16 and 8.
 const WIDE_32: u64 = 0x1_0000_0000;
@@ -55,8 +57,10 @@ fn scsi_response(w: &[u64; 10]) -> FromWords
     let itt = w[6];
     let tag = w[7];
     let residual = w[8];
+    let exp_data_sn = w[9];
     if (((o < 2) & (u < 2)) & ((code < WIDE_8) & (status < WIDE_8)))
-        & (((stated < WIDE_32) & (itt < WIDE_32)) & ((tag < WIDE_32) & (residual < WIDE_32)))
+        & (((stated < WIDE_32) & (itt < WIDE_32))
+            & (((tag < WIDE_32) & (residual < WIDE_32)) & (exp_data_sn < WIDE_32)))
     {
         FromWords::Response(Response::ScsiResponse(ScsiResponse {
             overflow: o != 0,
@@ -67,6 +71,7 @@ fn scsi_response(w: &[u64; 10]) -> FromWords
             initiator_task_tag: itt as u32,
             snack_tag: tag as u32,
             residual_count: residual as u32,
+            exp_data_sn: exp_data_sn as u32,
         }))
     } else {
         FromWords::Unfit(stated)
@@ -119,6 +124,35 @@ fn login_response(w: &[u64; 10]) -> FromWords
     }
 }
 
+fn data_in(w: &[u64; 10]) -> FromWords
+    ensures { λ r. ⌜ r ≡ dataInOf (now (w .entry)) ⌝ }
+{
+    let f = w[1];
+    let a = w[2];
+    let stated = w[3];
+    let lun = w[4];
+    let itt = w[5];
+    let ttt = w[6];
+    let data_sn = w[7];
+    let offset = w[8];
+    if (((f < 2) & (a < 2)) & ((stated < WIDE_32) & (itt < WIDE_32)))
+        & (((ttt < WIDE_32) & (data_sn < WIDE_32)) & (offset < WIDE_32))
+    {
+        FromWords::Response(Response::DataIn(DataIn {
+            is_final: f != 0,
+            acknowledge: a != 0,
+            data_segment_length: stated as u32,
+            lun: lun,
+            initiator_task_tag: itt as u32,
+            target_transfer_tag: ttt as u32,
+            data_sn: data_sn as u32,
+            buffer_offset: offset as u32,
+        }))
+    } else {
+        FromWords::Unfit(stated)
+    }
+}
+
 fn logout_response(w: &[u64; 10]) -> FromWords
     ensures { λ r. ⌜ r ≡ logoutResponseOf (now (w .entry)) ⌝ }
 {
@@ -132,6 +166,31 @@ fn logout_response(w: &[u64; 10]) -> FromWords
             initiator_task_tag: itt as u32,
             time2wait: wait as u16,
             time2retain: retain as u16,
+        }))
+    } else {
+        FromWords::Unfit(0)
+    }
+}
+
+fn r2t(w: &[u64; 10]) -> FromWords
+    ensures { λ r. ⌜ r ≡ r2tOf (now (w .entry)) ⌝ }
+{
+    let lun = w[1];
+    let itt = w[2];
+    let ttt = w[3];
+    let r2t_sn = w[4];
+    let offset = w[5];
+    let desired = w[6];
+    if ((itt < WIDE_32) & (ttt < WIDE_32))
+        & (((r2t_sn < WIDE_32) & (offset < WIDE_32)) & (desired < WIDE_32))
+    {
+        FromWords::Response(Response::R2t(R2t {
+            lun: lun,
+            initiator_task_tag: itt as u32,
+            target_transfer_tag: ttt as u32,
+            r2t_sn: r2t_sn as u32,
+            buffer_offset: offset as u32,
+            desired_data_transfer_length: desired as u32,
         }))
     } else {
         FromWords::Unfit(0)
@@ -161,7 +220,9 @@ pub fn response(w: &[u64; 10]) -> FromWords
         0x21 => scsi_response(w),
         0x22 => task_management_response(w),
         0x23 => login_response(w),
+        0x25 => data_in(w),
         0x26 => logout_response(w),
+        0x31 => r2t(w),
         0x3f => reject(w),
         _ => FromWords::Unfit(0),
     }

@@ -41,15 +41,23 @@ returns-6 : tie.Need-returns-6
 returns-6 c =
     let m = c .before .before .before in
     kind-decides _ _ _ _ (m .before .before .before .refusal-before-field .ensures) (m .before .before .if1 .left)
-    (m .match .keys5) (c .logout .ensures _)
+    (m .match .keys5) (c .data-out .ensures _)
 
 returns-7 : tie.Need-returns-7
 returns-7 c =
     let m = c .before .before .before in
+    kind-decides _ _ _ _ (m .before .before .before .refusal-before-field .ensures) (m .before .before .if1 .left)
+    (m .match .keys6) (c .logout .ensures _)
+
+returns-8 : tie.Need-returns-8
+returns-8 c =
+    let m = c .before .before .before in
     let f = m .before .before .before .refusal-before-field .ensures in
     let z = m .before .before .if1 .left in
     let n = m .match .rest in
-    kind-decides _ _ _ _ f z (known-last _ (known-past _ _ f z) (n .0 .0 .0 .0 .1) (n .0 .0 .0 .1) (n .0 .0 .1) (n .0 .1) (n .1)) (c .snack .ensures _)
+    kind-decides _ _ _ _ f z
+    (known-last _ (known-past _ _ f z) (n .0 .0 .0 .0 .0 .1) (n .0 .0 .0 .0 .1) (n .0 .0 .0 .1) (n .0 .0 .1) (n .0 .1) (n .1))
+    (c .snack .ensures _)
 
 pub read-spec : {M : Type 1} → statement M
 read-spec =
@@ -60,4 +68,5 @@ read-spec =
     (λ c κs. long-past _ _ (c .before .before .before .before .before .refusal-before-field .ensures) (c .before .before .before .before .if1 .left))
     (λ c κs. long-past _ _ (c .before .before .before .before .before .refusal-before-field .ensures) (c .before .before .before .before .if1 .left))
     (λ c κs. long-past _ _ (c .before .before .before .before .before .refusal-before-field .ensures) (c .before .before .before .before .if1 .left))
-    returns-2 returns-3 returns-4 returns-5 returns-6 returns-7)
+    (λ c κs. long-past _ _ (c .before .before .before .before .before .refusal-before-field .ensures) (c .before .before .before .before .if1 .left))
+    returns-2 returns-3 returns-4 returns-5 returns-6 returns-7 returns-8)

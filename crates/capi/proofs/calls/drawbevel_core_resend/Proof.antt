@@ -5,10 +5,10 @@ use Rattle.capi.proofs.calls.drawbevel_core_resend.Statement.{statement
 use Rattle.capi.proofs.calls.drawbevel_core_resend.Tie as tie
 
 returns : tie.Need-returns
-returns c k =
+returns c k tags ends =
     let call = c .before .before .before .resend in
-    shown-said (resendAnswer (call .result)) (rw (c .before .before .before .before .before .load .ensures) at (call .ensures k)) (c .resent .ensures)
+    shown-said (resendAnswer (call .result)) (rw (c .before .before .before .before .before .before .load .ensures, c .before .before .before .before .before .load2 .ensures) at (call .ensures k tags ends)) (c .resent .ensures)
 
 pub drawbevel-core-resend-spec : {M : Type 1} → statement M
 drawbevel-core-resend-spec =
-    tie.close (tie.spec (λ c κs. search needs) (λ c κs. search needs) (λ c κs. search needs) (λ c. search needs) returns)
+    tie.close (tie.spec (λ c κs. search needs) (λ c κs. search needs) (λ c κs. search needs) (λ c κs. search needs) (λ c. search needs) returns)
