@@ -62,7 +62,7 @@ pub struct LogoutCounts {
     pub voided: u32,
 }
 
-/// The answer to a SNACK: a run of held status numbers.
+/// The answer to a SNACK: a run of held status numbers, or of a task's Data-In and R2T.
 #[derive(Clone, Copy, Debug, PartialEq, Eq)]
 pub struct Run {
     /// The first number, the next one where none is held.

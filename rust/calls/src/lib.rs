@@ -9,13 +9,17 @@ mod parameters;
 mod refusal;
 mod request;
 mod response;
+mod task;
 
 pub use answer::{Holder, LoginAnswer, LogoutCounts, Offer, Out, Run, Take, Window};
 pub use engine::Engine;
 pub use parameters::Parameters;
 pub use refusal::Refusal;
-pub use request::{Data, Login, Logout, NopOut, Pdu, Request, ScsiCommand, Snack, TaskManagement};
+pub use request::{
+    Data, DataOut, Login, Logout, NopOut, Pdu, Request, ScsiCommand, Snack, TaskManagement,
+};
 pub use response::{Numbers, Response};
+pub use task::{Came, DataInPdu, DataSnack, OpenR2t, Task, TaskGiven};
 
 /// Bytes of a PDU's header.
 pub const HEADER_BYTES: usize = 48;

@@ -1,4 +1,4 @@
-//! A PDU as read: its common fields together with one of six request kinds. Names are RFC 7143's.
+//! A PDU as read: its common fields together with one of seven request kinds. Names are RFC 7143's.
 
 /// A PDU that was read. An absent common field is 0.
 #[derive(Clone, Copy, Debug, PartialEq, Eq)]
@@ -28,7 +28,7 @@ pub struct Data {
     pub length: usize,
 }
 
-/// The six request kinds.
+/// The seven request kinds.
 #[derive(Clone, Copy, Debug, PartialEq, Eq)]
 pub enum Request {
     /// 0x00
@@ -39,6 +39,8 @@ pub enum Request {
     TaskManagement(TaskManagement),
     /// 0x03
     Login(Login),
+    /// 0x05
+    DataOut(DataOut),
     /// 0x06
     Logout(Logout),
     /// 0x10
@@ -53,6 +55,7 @@ impl Request {
             Request::ScsiCommand(_) => "scsi-command",
             Request::TaskManagement(_) => "task-management",
             Request::Login(_) => "login",
+            Request::DataOut(_) => "data-out",
             Request::Logout(_) => "logout",
             Request::Snack(_) => "snack",
         }
@@ -119,6 +122,19 @@ pub struct Login {
     pub tsih: u16,
     /// Connection identifier.
     pub cid: u16,
+}
+
+/// SCSI Data-Out.
+#[derive(Clone, Copy, Debug, PartialEq, Eq)]
+pub struct DataOut {
+    /// F: the last of its burst.
+    pub final_bit: bool,
+    /// Target Transfer Tag.
+    pub ttt: u32,
+    /// DataSN.
+    pub data_sn: u32,
+    /// Buffer Offset.
+    pub buffer_offset: u32,
 }
 
 /// Logout Request.

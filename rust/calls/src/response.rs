@@ -1,4 +1,4 @@
-//! The six responses that are written, before they have their numbers. Values are as wide as a caller may state them.
+//! The eight responses that are written, before they have their numbers. Values are as wide as a caller may state them.
 
 /// A response to write.
 #[derive(Clone, Copy, Debug, PartialEq, Eq)]
@@ -32,6 +32,8 @@ pub enum Response {
         snack_tag: u32,
         /// Residual count.
         residual: u32,
+        /// ExpDataSN.
+        exp_data_sn: u32,
     },
     /// 0x22
     TaskManagement {
@@ -61,6 +63,25 @@ pub enum Response {
         /// Status-Detail.
         status_detail: u8,
     },
+    /// 0x25
+    DataIn {
+        /// F: the last of its burst.
+        final_bit: bool,
+        /// A: the data are to be acknowledged.
+        acknowledge: bool,
+        /// DataSegmentLength.
+        data_segment_length: u32,
+        /// Logical unit number.
+        lun: u64,
+        /// Initiator Task Tag.
+        itt: u32,
+        /// Target Transfer Tag.
+        ttt: u32,
+        /// DataSN.
+        data_sn: u32,
+        /// Buffer Offset.
+        buffer_offset: u32,
+    },
     /// 0x26
     Logout {
         /// Response.
@@ -72,6 +93,21 @@ pub enum Response {
         /// Time2Retain.
         time2retain: u16,
     },
+    /// 0x31
+    R2t {
+        /// Logical unit number.
+        lun: u64,
+        /// Initiator Task Tag.
+        itt: u32,
+        /// Target Transfer Tag.
+        ttt: u32,
+        /// R2TSN.
+        r2t_sn: u32,
+        /// Buffer Offset.
+        buffer_offset: u32,
+        /// Desired Data Transfer Length.
+        desired_data_transfer_length: u32,
+    },
     /// 0x3f
     Reject {
         /// Reason.
@@ -79,7 +115,7 @@ pub enum Response {
     },
 }
 
-/// The numbers that every response carries.
+/// The numbers that a response is written with.
 #[derive(Clone, Copy, Debug, PartialEq, Eq)]
 pub struct Numbers {
     /// Status number.

@@ -1,4 +1,5 @@
-//! An independent implementation of document 01: plain Rust, written from the papers, plainly right rather than fast.
+//! An independent implementation of document 01 and of the requests after it: plain Rust, written from the papers,
+//! plainly right rather than fast.
 //! History is unbounded, and what is held stands in maps keyed by its number. The proved engine is compared with it.
 
 mod block;
@@ -9,13 +10,14 @@ mod ledger;
 mod login;
 mod read;
 mod session;
+mod task;
 mod value;
 mod window;
 mod write;
 
 use calls::{
-    Engine, Holder, LoginAnswer, LogoutCounts, Numbers, Offer, Parameters, Pdu, Refusal, Response,
-    Run, Take, Window,
+    Came, DataInPdu, DataSnack, Engine, Holder, LoginAnswer, LogoutCounts, Numbers, Offer,
+    Parameters, Pdu, Refusal, Response, Run, Take, Task, TaskGiven, Window,
 };
 use login::Login;
 use session::Session;
@@ -65,10 +67,11 @@ impl Engine for Model {
         &mut self,
         connection: u32,
         ticket: u32,
+        task: &Task,
         out: &mut [u8],
         response: &Response,
     ) -> Result<u32, Refusal> {
-        self.session.send(connection, ticket, out, response)
+        self.session.send(connection, ticket, task, out, response)
     }
 
     fn acknowledge(&mut self, connection: u32, exp_stat_sn: u32) -> Result<u32, Refusal> {
@@ -79,8 +82,14 @@ impl Engine for Model {
         self.session.snack(connection, pdu)
     }
 
-    fn resend(&mut self, connection: u32, stat_sn: u32, out: &mut [u8]) -> Result<u32, Refusal> {
-        self.session.resend(connection, stat_sn, out)
+    fn resend(
+        &mut self,
+        connection: u32,
+        stat_sn: u32,
+        task: &Task,
+        out: &mut [u8],
+    ) -> Result<u32, Refusal> {
+        self.session.resend(connection, stat_sn, task, out)
     }
 
     fn window(&self) -> Window {
@@ -93,6 +102,51 @@ impl Engine for Model {
 
     fn holder(&self, number: u32) -> Holder {
         self.session.holder(number)
+    }
+
+    fn task(&self, given: TaskGiven) -> Result<Task, Refusal> {
+        task::make(given)
+    }
+
+    fn data_in(
+        &mut self,
+        connection: u32,
+        task: &mut Task,
+        out: &mut [u8],
+        pdu: DataInPdu,
+    ) -> Result<(), Refusal> {
+        *task = self.session.data_in(connection, task, out, pdu)?;
+        Ok(())
+    }
+
+    fn r2t(
+        &mut self,
+        connection: u32,
+        task: &mut Task,
+        out: &mut [u8],
+        tag: u32,
+        length: u32,
+    ) -> Result<(), Refusal> {
+        *task = self.session.r2t(connection, task, out, tag, length)?;
+        Ok(())
+    }
+
+    fn data_out(&mut self, connection: u32, task: &mut Task, pdu: &[u8]) -> Result<Came, Refusal> {
+        let (came, after) = self.session.data_out(connection, task, pdu)?;
+        *task = after;
+        Ok(came)
+    }
+
+    fn data_snack(
+        &mut self,
+        connection: u32,
+        task: &mut Task,
+        offset: u32,
+        pdu: &[u8],
+    ) -> Result<DataSnack, Refusal> {
+        let (answer, after) = self.session.data_snack(connection, task, offset, pdu)?;
+        *task = after;
+        Ok(answer)
     }
 
     fn length(&self, header: &[u8]) -> Result<u32, Refusal> {

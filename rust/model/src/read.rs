@@ -1,8 +1,8 @@
-//! Document 01, "Headers read": bytes in, common fields and one of six kinds out.
+//! Document 01, "Headers read": bytes in, common fields and one of seven kinds out.
 
 use crate::fields::{bit, get, get32};
 use calls::{
-    Data, HEADER_BYTES, Login, Logout, NopOut, Pdu, Refusal, Request, ScsiCommand, Snack,
+    Data, DataOut, HEADER_BYTES, Login, Logout, NopOut, Pdu, Refusal, Request, ScsiCommand, Snack,
     TaskManagement,
 };
 
@@ -10,6 +10,7 @@ const NOP_OUT: u8 = 0x00;
 const SCSI_COMMAND: u8 = 0x01;
 const TASK_MANAGEMENT: u8 = 0x02;
 const LOGIN: u8 = 0x03;
+const DATA_OUT: u8 = 0x05;
 const LOGOUT: u8 = 0x06;
 const SNACK: u8 = 0x10;
 
@@ -44,7 +45,16 @@ fn data_of(input: &[u8]) -> Result<Data, Refusal> {
         return Err(Refusal::Length);
     }
     let opcode = input[0] & 0x3f;
-    if ![NOP_OUT, SCSI_COMMAND, TASK_MANAGEMENT, LOGIN, LOGOUT, SNACK].contains(&opcode) {
+    let known = [
+        NOP_OUT,
+        SCSI_COMMAND,
+        TASK_MANAGEMENT,
+        LOGIN,
+        DATA_OUT,
+        LOGOUT,
+        SNACK,
+    ];
+    if !known.contains(&opcode) {
         return Err(Refusal::Opcode);
     }
     let length = get(input, 5, 3) as usize;
@@ -58,7 +68,7 @@ fn data_of(input: &[u8]) -> Result<Data, Refusal> {
 /// The fields where RFC 7143 puts them; a common field that the kind hasn't got is 0.
 fn fields_of(opcode: u8, input: &[u8], data: Data) -> Pdu {
     let has_lun = opcode != LOGIN && opcode != LOGOUT;
-    let has_cmd_sn = opcode != SNACK;
+    let has_cmd_sn = opcode != DATA_OUT && opcode != SNACK;
     Pdu {
         immediate: has_cmd_sn && bit(input[0], 0x40),
         cmd_sn: if has_cmd_sn { get32(input, 24) } else { 0 },
@@ -102,6 +112,12 @@ fn request_of(opcode: u8, input: &[u8]) -> Request {
             tsih: get(input, 14, 2) as u16,
             cid: get(input, 20, 2) as u16,
         }),
+        DATA_OUT => Request::DataOut(DataOut {
+            final_bit: bit(flags, 0x80),
+            ttt: get32(input, 20),
+            data_sn: get32(input, 36),
+            buffer_offset: get32(input, 40),
+        }),
         LOGOUT => Request::Logout(Logout {
             reason: flags & 0x7f,
             cid: get(input, 20, 2) as u16,
@@ -115,7 +131,7 @@ fn request_of(opcode: u8, input: &[u8]) -> Request {
     }
 }
 
-/// Whether every field rule of document 01 holds.
+/// Whether every field rule holds.
 fn field_rules_hold(pdu: &Pdu, input: &[u8]) -> bool {
     let highest_bit = bit(input[1], 0x80);
     let no_ahs = input[4] == 0;
@@ -127,6 +143,7 @@ fn field_rules_hold(pdu: &Pdu, input: &[u8]) -> bool {
             highest_bit && no_ahs && no_data && (1..=8).contains(&t.function)
         }
         Request::Login(_) => no_ahs && pdu.immediate,
+        Request::DataOut(_) => no_ahs,
         Request::Logout(l) => highest_bit && no_ahs && no_data && l.reason <= 2,
         Request::Snack(s) => highest_bit && no_ahs && snack_tags_fit(s, pdu.itt),
     }

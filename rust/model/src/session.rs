@@ -3,11 +3,12 @@
 use crate::fields::put;
 use crate::ledger::Ledger;
 use crate::read::{NO_TAG, read};
+use crate::task;
 use crate::window::CommandWindow;
 use crate::write::{header, judge};
 use calls::{
-    HEADER_BYTES, Holder, LogoutCounts, Numbers, Offer, Refusal, Request, Response, Run, Take,
-    Window,
+    Came, DataInPdu, DataSnack, HEADER_BYTES, Holder, LogoutCounts, Numbers, Offer, Refusal,
+    Request, Response, Run, Take, Task, Window,
 };
 use std::collections::BTreeMap;
 
@@ -55,6 +56,16 @@ impl Session {
         }
     }
 
+    /// The numbers that a response on this connection carries now.
+    fn numbers(&self, connection: u32) -> Result<Numbers, Refusal> {
+        let window = self.window();
+        Ok(Numbers {
+            stat_sn: self.ledger(connection)?.next(),
+            exp_cmd_sn: window.exp_cmd_sn,
+            max_cmd_sn: window.max_cmd_sn,
+        })
+    }
+
     pub fn next_stat_sn(&self, connection: u32) -> Result<u32, Refusal> {
         Ok(self.ledger(connection)?.next())
     }
@@ -71,7 +82,9 @@ impl Session {
             | Request::ScsiCommand(_)
             | Request::TaskManagement(_)
             | Request::Logout(_) => {}
-            Request::Login(_) | Request::Snack(_) => return Err(Refusal::Field),
+            Request::Login(_) | Request::DataOut(_) | Request::Snack(_) => {
+                return Err(Refusal::Field);
+            }
         }
         if read.immediate {
             return Ok(Offer::Immediate);
@@ -117,33 +130,33 @@ impl Session {
         }
     }
 
+    /// Send a status: of a SCSI Response, ExpDataSN is the record's.
     pub fn send(
         &mut self,
         connection: u32,
         ticket: u32,
+        task: &Task,
         out: &mut [u8],
         response: &Response,
     ) -> Result<u32, Refusal> {
         long_enough(out)?;
-        let window = self.window();
-        let ledger = self.ledger_mut(connection)?;
+        let numbers = self.numbers(connection)?;
         judge(response)?;
-        let stored = !matches!(response, Response::NopIn { itt: NO_TAG, .. });
+        if matches!(response, Response::DataIn { .. } | Response::R2t { .. }) {
+            return Err(Refusal::Field);
+        }
+        let status = task::status(task, response)?;
+        let ledger = self.ledger_mut(connection)?;
+        let stored = !matches!(status, Response::NopIn { itt: NO_TAG, .. });
         if stored && ledger.is_full() {
             return Err(Refusal::Full);
         }
-        let stat_sn = ledger.next();
-        let numbers = Numbers {
-            stat_sn,
-            exp_cmd_sn: window.exp_cmd_sn,
-            max_cmd_sn: window.max_cmd_sn,
-        };
-        let header = header(numbers, response);
+        let header = header(numbers, &status);
         if stored {
             ledger.store(header, ticket);
         }
         out[..HEADER_BYTES].copy_from_slice(&header);
-        Ok(stat_sn)
+        Ok(numbers.stat_sn)
     }
 
     pub fn acknowledge(&mut self, connection: u32, exp_stat_sn: u32) -> Result<u32, Refusal> {
@@ -162,10 +175,12 @@ impl Session {
         ledger.run(snack.beg_run, snack.run_length)
     }
 
+    /// Send a status again: of a SCSI Response, ExpDataSN and the tag of a type 3 SNACK are the record's.
     pub fn resend(
         &mut self,
         connection: u32,
         stat_sn: u32,
+        task: &Task,
         out: &mut [u8],
     ) -> Result<u32, Refusal> {
         long_enough(out)?;
@@ -177,8 +192,64 @@ impl Session {
         }
         put(&mut header, 28, 4, window.exp_cmd_sn.into());
         put(&mut header, 32, 4, window.max_cmd_sn.into());
+        task::renew(task, &mut header);
         out[..HEADER_BYTES].copy_from_slice(&header);
         Ok(ticket)
+    }
+
+    /// Send a Data-In.
+    pub fn data_in(
+        &self,
+        connection: u32,
+        task: &Task,
+        out: &mut [u8],
+        pdu: DataInPdu,
+    ) -> Result<Task, Refusal> {
+        long_enough(out)?;
+        let numbers = self.numbers(connection)?;
+        judge(&task::next_data_in(task, pdu))?;
+        let (response, after) = task::data_in(task, pdu)?;
+        out[..HEADER_BYTES].copy_from_slice(&header(numbers, &response));
+        Ok(after)
+    }
+
+    /// Send an R2T. It carries the next StatSN, uses up none and isn't stored. Writing has nothing to refuse in it.
+    pub fn r2t(
+        &self,
+        connection: u32,
+        task: &Task,
+        out: &mut [u8],
+        tag: u32,
+        desired_data_transfer_length: u32,
+    ) -> Result<Task, Refusal> {
+        long_enough(out)?;
+        let numbers = self.numbers(connection)?;
+        let (response, after) = task::r2t(task, tag, desired_data_transfer_length)?;
+        out[..HEADER_BYTES].copy_from_slice(&header(numbers, &response));
+        Ok(after)
+    }
+
+    /// Take a Data-Out, a whole PDU.
+    pub fn data_out(
+        &self,
+        connection: u32,
+        task: &Task,
+        pdu: &[u8],
+    ) -> Result<(Came, Task), Refusal> {
+        self.ledger(connection)?;
+        task::data_out(task, &read(pdu)?)
+    }
+
+    /// Take a SNACK of type 0, 2 or 3, a whole PDU.
+    pub fn data_snack(
+        &self,
+        connection: u32,
+        task: &Task,
+        offset: u32,
+        pdu: &[u8],
+    ) -> Result<(DataSnack, Task), Refusal> {
+        self.ledger(connection)?;
+        task::data_snack(task, self.level, offset, &read(pdu)?)
     }
 }
 

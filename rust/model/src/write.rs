@@ -51,8 +51,12 @@ fn data_length(response: &Response) -> u32 {
         | Response::Login {
             data_segment_length,
             ..
+        }
+        | Response::DataIn {
+            data_segment_length,
+            ..
         } => data_segment_length,
-        Response::TaskManagement { .. } | Response::Logout { .. } => 0,
+        Response::TaskManagement { .. } | Response::Logout { .. } | Response::R2t { .. } => 0,
         Response::Reject { .. } => 48,
     }
 }
@@ -80,6 +84,7 @@ pub fn header(numbers: Numbers, response: &Response) -> [u8; HEADER_BYTES] {
             itt,
             snack_tag,
             residual,
+            exp_data_sn,
             ..
         } => {
             h[0] = 0x21;
@@ -88,6 +93,7 @@ pub fn header(numbers: Numbers, response: &Response) -> [u8; HEADER_BYTES] {
             h[3] = status;
             put(&mut h, 16, 4, itt.into());
             put(&mut h, 20, 4, snack_tag.into());
+            put(&mut h, 36, 4, exp_data_sn.into());
             put(&mut h, 44, 4, residual.into());
         }
         Response::TaskManagement { response, itt } => {
@@ -114,6 +120,26 @@ pub fn header(numbers: Numbers, response: &Response) -> [u8; HEADER_BYTES] {
             h[36] = status_class;
             h[37] = status_detail;
         }
+        Response::DataIn {
+            final_bit,
+            acknowledge,
+            lun,
+            itt,
+            ttt,
+            data_sn,
+            buffer_offset,
+            ..
+        } => {
+            h[0] = 0x25;
+            h[1] = flag(final_bit, 0x80) | flag(acknowledge, 0x40);
+            put(&mut h, 8, 8, lun);
+            put(&mut h, 16, 4, itt.into());
+            put(&mut h, 20, 4, ttt.into());
+            // Its status goes by the SCSI Response, so it has no StatSN.
+            put(&mut h, 24, 4, 0);
+            put(&mut h, 36, 4, data_sn.into());
+            put(&mut h, 40, 4, buffer_offset.into());
+        }
         Response::Logout {
             response,
             itt,
@@ -125,6 +151,22 @@ pub fn header(numbers: Numbers, response: &Response) -> [u8; HEADER_BYTES] {
             put(&mut h, 16, 4, itt.into());
             put(&mut h, 40, 2, time2wait.into());
             put(&mut h, 42, 2, time2retain.into());
+        }
+        Response::R2t {
+            lun,
+            itt,
+            ttt,
+            r2t_sn,
+            buffer_offset,
+            desired_data_transfer_length,
+        } => {
+            h[0] = 0x31;
+            put(&mut h, 8, 8, lun);
+            put(&mut h, 16, 4, itt.into());
+            put(&mut h, 20, 4, ttt.into());
+            put(&mut h, 36, 4, r2t_sn.into());
+            put(&mut h, 40, 4, buffer_offset.into());
+            put(&mut h, 44, 4, desired_data_transfer_length.into());
         }
         Response::Reject { reason } => {
             h[0] = 0x3f;

@@ -6,7 +6,7 @@ use model::Model;
 use std::fmt::Write as _;
 
 /// The PDU of a line: hexadecimal digits, and after a plus sign how many bytes 0x61 follow.
-fn pdu_of(line: &str) -> Vec<u8> {
+pub fn pdu_of(line: &str) -> Vec<u8> {
     let (hex, more) = line.split_once('+').unwrap_or((line, "0"));
     let digit = |b: u8| char::from(b).to_digit(16).expect("a hexadecimal digit") as u8;
     let pairs = hex.as_bytes().chunks_exact(2);
@@ -40,6 +40,14 @@ fn own(out: &mut String, request: &Request) {
                 x.csg, x.nsg, x.version_max, x.version_min, x.isid, x.tsih, x.cid
             )
         }
+        Request::DataOut(x) => write!(
+            out,
+            " f={} ttt=0x{:08x} datasn=0x{:08x} offset=0x{:08x}",
+            u8::from(x.final_bit),
+            x.ttt,
+            x.data_sn,
+            x.buffer_offset
+        ),
         Request::Logout(x) => write!(out, " reason={} cid=0x{:04x}", x.reason, x.cid),
         Request::Snack(x) => write!(
             out,
@@ -50,7 +58,7 @@ fn own(out: &mut String, request: &Request) {
     .unwrap();
 }
 
-fn shown(out: &mut String, p: &Pdu, pdu: &[u8]) {
+pub fn shown(out: &mut String, p: &Pdu, pdu: &[u8]) {
     write!(
         out,
         "{} i={} cmdsn=0x{:08x} lun=0x{:016x} itt=0x{:08x} expstatsn=0x{:08x}",

@@ -1,6 +1,8 @@
 //! What the proved programs print for their vectors is what the model answers to the same input: the model was written from
-//! the rules alone, so neither side's expectation is its own output.
+//! the rules alone, so neither side's expectation is its own output. The headers of data phases stand here as bytes, laid out by
+//! hand from RFC 7143's pictures.
 
+mod data;
 mod header;
 mod login;
 
