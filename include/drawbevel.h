@@ -11,36 +11,49 @@
  *   drawbevel_take           COMMAND, VOID, NOTHING                       BUFFER
  *   drawbevel_logout         DONE                                         NOCONN, CLOSED, FIELD (a reason above 2)
  *   drawbevel_open           DONE                                         NOCONN, OPEN
- *   drawbevel_send           DONE                                         BUFFER, NOCONN, CLOSED, TOOLONG, FIELD, FULL
+ *   drawbevel_send           DONE                                         BUFFER, NOCONN, CLOSED, TOOLONG, FIELD (also Data-In and R2T, and a
+ *                                                                         SCSI Response whose tags aren't the record's), FULL
  *   drawbevel_acknowledge    DONE                                         NOCONN, CLOSED, STALE
  *   drawbevel_snack          DONE                                         NOCONN, CLOSED, READ, FIELD (another kind), SNACK
  *   drawbevel_resend         DONE                                         BUFFER, NOCONN, CLOSED, SNACK
  *   drawbevel_next_stat_sn   DONE                                         NOCONN, CLOSED
  *   drawbevel_holder         FREE, VOID, HELD                             none
+ *   drawbevel_task_make      DONE                                         FIELD (a MaxOutstandingR2T of 0, or above 8)
+ *   drawbevel_task_data_in   DONE                                         BUFFER, NOCONN, CLOSED, TOOLONG, FIELD
+ *   drawbevel_task_r2t       DONE                                         BUFFER, NOCONN, CLOSED, FIELD
+ *   drawbevel_task_data_out  DONE                                         NOCONN, CLOSED, READ, FIELD (another kind, or not what is due)
+ *   drawbevel_task_snack     RUN, ACKNOWLEDGED                            NOCONN, CLOSED, READ, FIELD (another kind, type 1, another tag), SNACK
  *   drawbevel_login_receive  OK                                           BUFFER, CLOSED, READ, FIELD (no Login, or new_handle 0), LOGIN
  *
- * drawbevel_fresh, drawbevel_window and drawbevel_login_fresh are never refused. A refusal changes no session, no login and no lent byte, but
- * LOGIN ends its login. What a call hands out through a pointer is 0 after a refusal, and where its answer has no such value; but
- * drawbevel_read leaves *pdu, and LOGIN comes with its status.
+ * drawbevel_fresh, drawbevel_window and drawbevel_login_fresh are never refused. A refusal changes no session, no login, no record of a task and
+ * no lent byte, but LOGIN ends its login. What a call hands out through a pointer is 0 after a refusal, and where its answer has no such value;
+ * but drawbevel_read leaves *pdu, and LOGIN comes with its status.
  *
  * Assumed: a pointer is good for the length that goes with it; the areas lent to one call overlap neither one another nor the PDU nor a
- * struct of the call; a session or login is begun by its _fresh and changed by these functions alone. Calls on different sessions and logins
- * may run at the same time, on one only those that take it as const.
+ * struct of the call; a session or login is begun by its _fresh, a record by drawbevel_task_make, and each is changed by these
+ * functions alone. Calls on different sessions, logins and records may run at the same time, on one only those that take it as const.
  *
  * What a target does at a refusal (sections of RFC 7143). In the full feature phase:
  *
  *   OPCODE           Reject 0x05, command not supported (11.17.1); go on after the PDU, whose length bytes 4 to 7 state for any opcode.
- *                    Text Request (0x04) and Data-Out (0x05) aren't read here: they are the caller's.
+ *                    Text Request (0x04) isn't read here: it is the caller's.
  *   FIELD            Reject 0x09, invalid PDU field, of a Login Request 0x04, protocol error (11.17.1). By 7.7 (format errors) every connection
- *                    of the session is then closed; to go on is the lenient choice.
+ *                    of the session is then closed; to go on is the lenient choice. To drawbevel_task_make, _data_in and _r2t, and to
+ *                    drawbevel_send: the caller's own fault, nothing is sent.
  *   LENGTH           The bytes given aren't one PDU: framed by drawbevel_length, the stream ended within it. Close the connection.
  *   TOOLONG          Reject 0x04 and close the connection; the RFC leaves it to the target to read past the data and go on.
- *   SNACK            To drawbevel_snack: Reject 0x04 for a status SNACK at a level above 0 (11.16: not sent, or acknowledged already), else
- *                    0x03, SNACK reject; go on. To drawbevel_resend: nothing is sent, the number isn't held.
+ *   SNACK            To drawbevel_snack and drawbevel_task_snack: Reject 0x04 for a SNACK of the call's types (1; 0, 2 and 3) at a level above
+ *                    0 (11.16: not sent, or acknowledged already), else 0x03, SNACK reject; go on. To drawbevel_resend: nothing is sent, the
+ *                    number isn't held.
  *   STALE            Nothing is sent, go on: initiators err here without harm (libiscsi's ExpStatSN is one ahead after an R2T).
  *   FULL             Keep the response until statuses are acknowledged. A NOP-In with ITT 0xffffffff and a TTT is never FULL, and the
  *                    NOP-Out that answers it (11.18) brings an ExpStatSN.
  *   BUFFER, NOCONN, CLOSED, OPEN   The caller's own fault; nothing is sent.
+ *
+ * A Data-Out has no CmdSN (11.7): to drawbevel_offer it is FIELD. Its task is found by the Initiator Task Tag that drawbevel_read shows, a DataACK's
+ * (a SNACK of type 2) by its Target Transfer Tag. A Data-In and an R2T aren't statuses: to drawbevel_send they are FIELD. drawbevel_task_data_in and
+ * drawbevel_task_r2t write a task's next ones; drawbevel_write writes any, as one that is sent again, with the numbers of drawbevel_window, an R2T
+ * also with that of drawbevel_next_stat_sn, which it doesn't use up (11.8.3).
  *
  * A Reject is sent by drawbevel_send, with the 48 bytes of the refused header as its data (11.17.4). The CmdSN of a rejected command counts
  * as not received (7.3). In the login phase each of these is answered by drawbevel_login_refused and the connection is closed (11.13.5):
@@ -86,7 +99,9 @@ enum drawbevel_answer {
     DRAWBEVEL_VOID = 39,      /* the number's command went with a logout */
     DRAWBEVEL_COMMAND = 40,   /* a command is handed out */
     DRAWBEVEL_FREE = 41,      /* the number isn't held */
-    DRAWBEVEL_HELD = 42       /* the number's command is held */
+    DRAWBEVEL_HELD = 42,      /* the number's command is held */
+    DRAWBEVEL_RUN = 43,       /* Data-In and R2T of a task are to be sent again */
+    DRAWBEVEL_ACKNOWLEDGED = 44 /* Data-In and R2T of a task are acknowledged */
 };
 
 /* Whether an answer is a refusal. */
@@ -123,6 +138,8 @@ static inline const char *drawbevel_answer_name(uint32_t answer)
     case DRAWBEVEL_COMMAND: return "COMMAND";
     case DRAWBEVEL_FREE: return "FREE";
     case DRAWBEVEL_HELD: return "HELD";
+    case DRAWBEVEL_RUN: return "RUN";
+    case DRAWBEVEL_ACKNOWLEDGED: return "ACKNOWLEDGED";
     default: return "?";
     }
 }
@@ -142,6 +159,7 @@ enum drawbevel_request_kind {
     DRAWBEVEL_SCSI_COMMAND = 0x01,
     DRAWBEVEL_TASK_MANAGEMENT = 0x02,
     DRAWBEVEL_LOGIN_REQUEST = 0x03,
+    DRAWBEVEL_DATA_OUT = 0x05,
     DRAWBEVEL_LOGOUT_REQUEST = 0x06,
     DRAWBEVEL_SNACK_REQUEST = 0x10
 };
@@ -159,6 +177,9 @@ struct drawbevel_task_management {
 struct drawbevel_login_request {
     uint64_t transit, continues, csg, nsg, version_max, version_min, isid, tsih, cid;
 };
+struct drawbevel_data_out {
+    uint64_t is_final, target_transfer_tag, data_sn, buffer_offset;
+};
 struct drawbevel_logout_request {
     uint64_t reason, cid;
 };
@@ -175,6 +196,7 @@ struct drawbevel_pdu {
         struct drawbevel_scsi_command scsi_command;
         struct drawbevel_task_management task_management;
         struct drawbevel_login_request login;
+        struct drawbevel_data_out data_out;
         struct drawbevel_logout_request logout;
         struct drawbevel_snack_request snack;
     } request;
@@ -238,6 +260,12 @@ static inline enum drawbevel_answer drawbevel_read(const uint8_t *input, size_t 
         pdu->request.login.tsih = own[7];
         pdu->request.login.cid = own[8];
         break;
+    case DRAWBEVEL_DATA_OUT:
+        pdu->request.data_out.is_final = own[0];
+        pdu->request.data_out.target_transfer_tag = own[1];
+        pdu->request.data_out.data_sn = own[2];
+        pdu->request.data_out.buffer_offset = own[3];
+        break;
     case DRAWBEVEL_LOGOUT_REQUEST:
         pdu->request.logout.reason = own[0];
         pdu->request.logout.cid = own[1];
@@ -259,7 +287,9 @@ enum drawbevel_response_kind {
     DRAWBEVEL_SCSI_RESPONSE = 0x21,
     DRAWBEVEL_TASK_MANAGEMENT_RESPONSE = 0x22,
     DRAWBEVEL_LOGIN_RESPONSE = 0x23,
+    DRAWBEVEL_DATA_IN = 0x25,
     DRAWBEVEL_LOGOUT_RESPONSE = 0x26,
+    DRAWBEVEL_R2T = 0x31,
     DRAWBEVEL_REJECT = 0x3f
 };
 
@@ -267,7 +297,7 @@ struct drawbevel_nop_in {
     uint64_t data_segment_length, lun, initiator_task_tag, target_transfer_tag;
 };
 struct drawbevel_scsi_response {
-    uint64_t overflow, underflow, response, status, data_segment_length, initiator_task_tag, snack_tag, residual_count;
+    uint64_t overflow, underflow, response, status, data_segment_length, initiator_task_tag, snack_tag, residual_count, exp_data_sn;
 };
 struct drawbevel_task_management_response {
     uint64_t response, initiator_task_tag;
@@ -275,15 +305,23 @@ struct drawbevel_task_management_response {
 struct drawbevel_login_response {
     uint64_t transit, csg, nsg, data_segment_length, isid, tsih, initiator_task_tag, status_class, status_detail;
 };
+struct drawbevel_data_in {
+    uint64_t is_final, acknowledge, data_segment_length, lun, initiator_task_tag, target_transfer_tag, data_sn, buffer_offset;
+};
 struct drawbevel_logout_response {
     uint64_t response, initiator_task_tag, time2wait, time2retain;
+};
+struct drawbevel_r2t {
+    uint64_t lun, initiator_task_tag, target_transfer_tag, r2t_sn, buffer_offset, desired_data_transfer_length;
 };
 struct drawbevel_reject {
     uint64_t reason;
 };
 
 /* A response to write or send. A data length above 8,192 is TOOLONG; FIELD are another kind, a value too wide for its field (a flag of 2, a
- * CSG of 4, an ISID of 2^48), O with U, and an NSG other than 0 with T clear: nothing is cut. Only the kind's own member of the union is read. */
+ * CSG of 4, an ISID of 2^48), O with U, and an NSG other than 0 with T clear: nothing is cut. A Data-In or an R2T is for drawbevel_write alone:
+ * to drawbevel_send it is FIELD, where it isn't TOOLONG. A SCSI Response's exp_data_sn is for drawbevel_write too: drawbevel_send takes it from the
+ * task's record. Only the kind's own member of the union is read, and every field of it. */
 struct drawbevel_response {
     uint64_t kind; /* enum drawbevel_response_kind */
     union {
@@ -291,7 +329,9 @@ struct drawbevel_response {
         struct drawbevel_scsi_response scsi_response;
         struct drawbevel_task_management_response task_management_response;
         struct drawbevel_login_response login_response;
+        struct drawbevel_data_in data_in;
         struct drawbevel_logout_response logout_response;
+        struct drawbevel_r2t r2t;
         struct drawbevel_reject reject;
     } of;
 };
@@ -319,6 +359,7 @@ static inline void drawbevel_response_words(const struct drawbevel_response *res
         words[6] = response->of.scsi_response.initiator_task_tag;
         words[7] = response->of.scsi_response.snack_tag;
         words[8] = response->of.scsi_response.residual_count;
+        words[9] = response->of.scsi_response.exp_data_sn;
         break;
     case DRAWBEVEL_TASK_MANAGEMENT_RESPONSE:
         words[1] = response->of.task_management_response.response;
@@ -335,11 +376,29 @@ static inline void drawbevel_response_words(const struct drawbevel_response *res
         words[8] = response->of.login_response.status_class;
         words[9] = response->of.login_response.status_detail;
         break;
+    case DRAWBEVEL_DATA_IN:
+        words[1] = response->of.data_in.is_final;
+        words[2] = response->of.data_in.acknowledge;
+        words[3] = response->of.data_in.data_segment_length;
+        words[4] = response->of.data_in.lun;
+        words[5] = response->of.data_in.initiator_task_tag;
+        words[6] = response->of.data_in.target_transfer_tag;
+        words[7] = response->of.data_in.data_sn;
+        words[8] = response->of.data_in.buffer_offset;
+        break;
     case DRAWBEVEL_LOGOUT_RESPONSE:
         words[1] = response->of.logout_response.response;
         words[2] = response->of.logout_response.initiator_task_tag;
         words[3] = response->of.logout_response.time2wait;
         words[4] = response->of.logout_response.time2retain;
+        break;
+    case DRAWBEVEL_R2T:
+        words[1] = response->of.r2t.lun;
+        words[2] = response->of.r2t.initiator_task_tag;
+        words[3] = response->of.r2t.target_transfer_tag;
+        words[4] = response->of.r2t.r2t_sn;
+        words[5] = response->of.r2t.buffer_offset;
+        words[6] = response->of.r2t.desired_data_transfer_length;
         break;
     case DRAWBEVEL_REJECT:
         words[1] = response->of.reject.reason;
@@ -351,7 +410,8 @@ static inline void drawbevel_response_words(const struct drawbevel_response *res
 
 uint32_t drawbevel_core_write(uint8_t *out, size_t lent, const uint64_t *words10, uint32_t stat_sn, uint32_t exp_cmd_sn, uint32_t max_cmd_sn);
 
-/* Writes a response's header with these numbers into the first 48 bytes of out; later bytes stay. BUFFER: fewer are lent. */
+/* Writes a response's header with these numbers into the first 48 bytes of out; later bytes stay. BUFFER: fewer are lent. A Data-In has no
+ * status: its StatSN is 0, whatever stat_sn is. */
 static inline enum drawbevel_answer drawbevel_write(uint8_t *out, size_t lent, const struct drawbevel_response *response, uint32_t stat_sn,
                                                     uint32_t exp_cmd_sn, uint32_t max_cmd_sn)
 {
@@ -372,6 +432,17 @@ struct drawbevel_session {
     uint8_t statuses[6144];
 };
 
+/* The record of a task's data phases: what was sent, what was asked for and what came. Make one by drawbevel_task_make for each SCSI command when
+ * it is taken, or offered as immediate, and keep it until its status is acknowledged. Each call on the task is given it as the last one left it: a
+ * call changes it in place, and one that is given an older copy answers for that older state. No pointers, so it may be moved and copied. Its
+ * members are the core's; whatever values they have, a call gets an answer. */
+struct drawbevel_task {
+    uint64_t wide[4];
+    uint64_t ends[8];
+    uint32_t numbers[12];
+    uint32_t tags[8];
+};
+
 /* The uint64_t of a call is its answer, and above its 32 bits the one value that it has. */
 void drawbevel_core_fresh(uint32_t *numbers15, uint64_t *maps6, uint8_t *headers, uint32_t *tickets, uint8_t *statuses, uint32_t *status_tickets,
                           uint32_t first, uint32_t stat_sn, uint8_t level);
@@ -381,15 +452,25 @@ void drawbevel_core_take(uint32_t *numbers15, uint64_t *maps6, const uint8_t *he
                          uint32_t *answer4);
 void drawbevel_core_logout(uint32_t *numbers15, uint64_t *maps6, uint32_t connection, uint8_t reason, uint32_t *answer4);
 uint64_t drawbevel_core_open(uint32_t *numbers15, uint64_t *maps6, uint32_t connection, uint32_t stat_sn);
-uint64_t drawbevel_core_send(uint32_t *numbers15, uint64_t *maps6, uint8_t *statuses, uint32_t *status_tickets, uint32_t connection, uint32_t ticket,
-                             const uint64_t *words10, uint8_t *out, size_t lent);
+uint64_t drawbevel_core_send(uint32_t *numbers15, uint64_t *maps6, uint8_t *statuses, uint32_t *status_tickets, const uint32_t *task12,
+                             const uint64_t *wide4, uint32_t connection, uint32_t ticket, const uint64_t *words10, uint8_t *out, size_t lent);
 uint64_t drawbevel_core_acknowledge(uint32_t *numbers15, uint64_t *maps6, uint32_t connection, uint32_t exp_stat_sn);
 void drawbevel_core_snack(const uint32_t *numbers15, const uint64_t *maps6, uint32_t connection, const uint8_t *pdu, size_t length, uint32_t *answer4);
 uint64_t drawbevel_core_resend(const uint32_t *numbers15, const uint64_t *maps6, const uint8_t *statuses, const uint32_t *status_tickets,
-                               uint32_t connection, uint32_t stat_sn, uint8_t *out, size_t lent);
+                               const uint32_t *task12, const uint64_t *wide4, uint32_t connection, uint32_t stat_sn, uint8_t *out, size_t lent);
 void drawbevel_core_window(const uint32_t *numbers15, const uint64_t *maps6, uint32_t *answer4);
 uint64_t drawbevel_core_next(const uint32_t *numbers15, const uint64_t *maps6, uint32_t connection);
 void drawbevel_core_holder(const uint32_t *numbers15, const uint64_t *maps6, const uint32_t *tickets64, uint32_t number, uint32_t *answer4);
+uint64_t drawbevel_core_task(uint32_t *task12, uint64_t *wide4, uint32_t itt, uint64_t lun, uint32_t transfer_tag, uint32_t immediate,
+                             uint32_t max_burst_length, uint16_t max_outstanding_r2t);
+uint64_t drawbevel_core_data_in(const uint32_t *numbers15, const uint64_t *maps6, uint32_t *task12, uint64_t *wide4, uint32_t connection, bool is_final,
+                                bool acknowledge, uint32_t length, uint8_t *out, size_t lent);
+uint64_t drawbevel_core_r2t(const uint32_t *numbers15, const uint64_t *maps6, uint32_t *task12, uint64_t *wide4, uint32_t *tags8, uint64_t *ends8,
+                            uint32_t connection, uint32_t tag, uint32_t length, uint8_t *out, size_t lent);
+void drawbevel_core_data_out(const uint32_t *numbers15, const uint64_t *maps6, uint32_t *task12, uint64_t *wide4, const uint32_t *tags8,
+                             const uint64_t *ends8, uint32_t connection, const uint8_t *pdu, size_t length, uint32_t *answer4);
+void drawbevel_core_data_snack(const uint32_t *numbers15, const uint64_t *maps6, uint32_t *task12, uint64_t *wide4, uint32_t connection,
+                               uint32_t offset, const uint8_t *pdu, size_t length, uint32_t *answer4);
 
 /* A fresh session: its first command number, connection 0's first StatSN and the ErrorRecoveryLevel. Connection 0 is open, nothing is held. */
 static inline void drawbevel_fresh(struct drawbevel_session *session, uint32_t first, uint32_t stat_sn, uint8_t level)
@@ -440,14 +521,18 @@ static inline enum drawbevel_answer drawbevel_open(struct drawbevel_session *ses
     return (enum drawbevel_answer)(uint32_t)drawbevel_core_open(session->numbers, session->maps, connection, stat_sn);
 }
 
-/* Sends a response: its header with the next StatSN, which is handed out, and both window numbers goes to the first 48 bytes of out, and is
- * kept with the ticket. A NOP-In with ITT 0xffffffff uses up no StatSN and isn't kept. */
-static inline enum drawbevel_answer drawbevel_send(struct drawbevel_session *session, uint32_t connection, uint32_t ticket,
-                                                   const struct drawbevel_response *response, uint8_t *out, size_t lent, uint32_t *stat_sn)
+/* Sends a status, that is a response other than Data-In and R2T: its header with the next StatSN, which is handed out, and both window numbers
+ * goes to the first 48 bytes of out, and is kept with the ticket. A NOP-In with ITT 0xffffffff uses up no StatSN and isn't kept. A SCSI Response is
+ * given its task's record: it must have the record's Initiator Task Tag, and as SNACK tag that of the latest SNACK of type 3 (0 before any); its
+ * ExpDataSN is the record's count, exp_data_sn isn't looked at. For another response any record will do, a zeroed one too. */
+static inline enum drawbevel_answer drawbevel_send(struct drawbevel_session *session, const struct drawbevel_task *task, uint32_t connection,
+                                                   uint32_t ticket, const struct drawbevel_response *response, uint8_t *out, size_t lent,
+                                                   uint32_t *stat_sn)
 {
     uint64_t words[10], a;
     drawbevel_response_words(response, words);
-    a = drawbevel_core_send(session->numbers, session->maps, session->statuses, session->status_tickets, connection, ticket, words, out, lent);
+    a = drawbevel_core_send(session->numbers, session->maps, session->statuses, session->status_tickets, task->numbers, task->wide, connection, ticket,
+                            words, out, lent);
     *stat_sn = (uint32_t)(a >> 32);
     return (enum drawbevel_answer)(uint32_t)a;
 }
@@ -472,11 +557,13 @@ static inline enum drawbevel_answer drawbevel_snack(const struct drawbevel_sessi
     return (enum drawbevel_answer)a[0];
 }
 
-/* Writes a held status again, with the window numbers of now, into the first 48 bytes of out, and its ticket. */
-static inline enum drawbevel_answer drawbevel_resend(const struct drawbevel_session *session, uint32_t connection, uint32_t stat_sn, uint8_t *out,
-                                                     size_t lent, uint32_t *ticket)
+/* Writes a held status again, with the window numbers of now, into the first 48 bytes of out, and its ticket. A SCSI Response has ExpDataSN, and
+ * the SNACK tag after a SNACK of type 3, from the record: give its task's as it is now. For another response any record will do. */
+static inline enum drawbevel_answer drawbevel_resend(const struct drawbevel_session *session, const struct drawbevel_task *task, uint32_t connection,
+                                                     uint32_t stat_sn, uint8_t *out, size_t lent, uint32_t *ticket)
 {
-    uint64_t a = drawbevel_core_resend(session->numbers, session->maps, session->statuses, session->status_tickets, connection, stat_sn, out, lent);
+    uint64_t a = drawbevel_core_resend(session->numbers, session->maps, session->statuses, session->status_tickets, task->numbers, task->wide,
+                                       connection, stat_sn, out, lent);
     *ticket = (uint32_t)(a >> 32);
     return (enum drawbevel_answer)(uint32_t)a;
 }
@@ -510,6 +597,85 @@ static inline enum drawbevel_answer drawbevel_holder(const struct drawbevel_sess
     drawbevel_core_holder(session->numbers, session->maps, session->tickets, number, a);
     held->ticket = a[1];
     held->origin = a[2];
+    return (enum drawbevel_answer)a[0];
+}
+
+/* ---- the data of a task: its record (struct drawbevel_task), the session as it is, and an open connection. No call changes the session: neither a
+ * Data-In nor an R2T uses up a StatSN or is kept. */
+
+/* A fresh record. target_transfer_tag is what a Data-In with A shall bear and the DataACK that answers it, unlike that of any other task;
+ * 0xffffffff for a target that never asks for a DataACK. immediate is the length of the data that came with the command; the other two are the
+ * settled parameters. */
+static inline enum drawbevel_answer drawbevel_task_make(struct drawbevel_task *task, uint32_t initiator_task_tag, uint64_t lun,
+                                                        uint32_t target_transfer_tag, uint32_t immediate, uint32_t max_burst_length,
+                                                        uint16_t max_outstanding_r2t)
+{
+    int i;
+    uint64_t a = drawbevel_core_task(task->numbers, task->wide, initiator_task_tag, lun, target_transfer_tag, immediate, max_burst_length,
+                                     max_outstanding_r2t);
+    /* No R2T is open, so no word of these counts. */
+    for (i = 0; i < 8 && (uint32_t)a == DRAWBEVEL_DONE; i++) {
+        task->tags[i] = 0;
+        task->ends[i] = 0;
+    }
+    return (enum drawbevel_answer)(uint32_t)a;
+}
+
+/* The next Data-In, with so many bytes of data from where the last one ended: its header goes to the first 48 bytes of out. is_final (F) ends the
+ * burst; acknowledge (A) asks for a DataACK, at most once in MaxBurstLength bytes and never at ErrorRecoveryLevel 0 (11.7.2), which isn't checked.
+ * FIELD: the burst would pass MaxBurstLength or the data 2^32, 2^32 - 1 PDUs are sent, or A has no Target Transfer Tag. */
+static inline enum drawbevel_answer drawbevel_task_data_in(const struct drawbevel_session *session, struct drawbevel_task *task, uint32_t connection,
+                                                           bool is_final, bool acknowledge, uint32_t data_segment_length, uint8_t *out, size_t lent)
+{
+    return (enum drawbevel_answer)(uint32_t)drawbevel_core_data_in(session->numbers, session->maps, task->numbers, task->wide, connection, is_final,
+                                                                   acknowledge, data_segment_length, out, lent);
+}
+
+/* The next R2T, for so many bytes after those that were asked for (or were immediate data): its header goes to the first 48 bytes of out.
+ * target_transfer_tag is what the Data-Out that answer it bear. FIELD: that is 0xffffffff, the length is 0 or above MaxBurstLength, the data would
+ * pass 2^32, MaxOutstandingR2T are open, or 2^32 - 1 PDUs are sent. */
+static inline enum drawbevel_answer drawbevel_task_r2t(const struct drawbevel_session *session, struct drawbevel_task *task, uint32_t connection,
+                                                       uint32_t target_transfer_tag, uint32_t desired_data_transfer_length, uint8_t *out, size_t lent)
+{
+    return (enum drawbevel_answer)(uint32_t)drawbevel_core_r2t(session->numbers, session->maps, task->numbers, task->wide, task->tags, task->ends,
+                                                               connection, target_transfer_tag, desired_data_transfer_length, out, lent);
+}
+
+struct drawbevel_came {
+    uint32_t offset, count; /* the place of the PDU's data in the whole transfer, and its bytes */
+    uint32_t open;          /* how many R2Ts aren't wholly answered */
+};
+
+/* A Data-Out, a whole PDU: where its data belong. It is due where it answers the oldest open R2T, with the next DataSN, from where the data came up
+ * to, and with F exactly at that R2T's end; else FIELD. Unsolicited data never is: InitialR2T is Yes here. */
+static inline enum drawbevel_answer drawbevel_task_data_out(const struct drawbevel_session *session, struct drawbevel_task *task, uint32_t connection,
+                                                            const uint8_t *pdu, size_t length, struct drawbevel_came *came)
+{
+    uint32_t a[4];
+    drawbevel_core_data_out(session->numbers, session->maps, task->numbers, task->wide, task->tags, task->ends, connection, pdu, length, a);
+    came->offset = a[1];
+    came->count = a[2];
+    came->open = a[3];
+    return (enum drawbevel_answer)a[0];
+}
+
+/* A SNACK of type 0, 2 or 3, a whole PDU (11.16). One of type 1 goes to drawbevel_snack.
+ *   0, Data/R2T SNACK   RUN: the first DataSN or R2TSN and the count of those that the caller sends again itself, unchanged but for the window
+ *                       numbers: the record doesn't have them, and it stays.
+ *   2, DataACK          ACKNOWLEDGED: the count of those newly acknowledged, which are never asked for again.
+ *   3, R-Data SNACK     RUN: all that aren't acknowledged. drawbevel_task_data_in sends their data anew from here on, with DataSN from the first on,
+ *                       from the offset given: the caller knows where the acknowledged data end. The SCSI Response, sent or sent again, then has
+ *                       the SNACK's tag. Open R2Ts stay open.
+ * The offset is looked at for type 3 alone. */
+static inline enum drawbevel_answer drawbevel_task_snack(const struct drawbevel_session *session, struct drawbevel_task *task, uint32_t connection,
+                                                         uint32_t offset, const uint8_t *pdu, size_t length, uint32_t *first, uint32_t *count)
+{
+    uint32_t a[4];
+    bool is_run;
+    drawbevel_core_data_snack(session->numbers, session->maps, task->numbers, task->wide, connection, offset, pdu, length, a);
+    is_run = a[0] == DRAWBEVEL_RUN;
+    *first = is_run ? a[1] : 0;
+    *count = is_run ? a[2] : a[1];
     return (enum drawbevel_answer)a[0];
 }
 

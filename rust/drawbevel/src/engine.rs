@@ -1,9 +1,9 @@
 //! The library as an engine: what the tools and tests play calls on.
 
-use crate::{Login, Session, header};
+use crate::{Login, Session, header, task};
 use calls::{
-    Engine, Holder, LoginAnswer, LogoutCounts, Numbers, Offer, Parameters, Pdu, Refusal, Response,
-    Run, Take, Window,
+    Came, DataInPdu, DataSnack, Engine, Holder, LoginAnswer, LogoutCounts, Numbers, Offer,
+    Parameters, Pdu, Refusal, Response, Run, Take, Task, TaskGiven, Window,
 };
 
 /// One session, one login with its target's name, the reader and the writer.
@@ -22,6 +22,23 @@ impl Default for Drawbevel {
             target_name: b"iqn.2026-11.example:drawbevel".to_vec(),
         }
     }
+}
+
+/// The words of a record.
+///
+/// # Panics
+/// Where it has more than eight open R2Ts.
+fn words_of(task: &Task) -> task::Task {
+    let words = task::Task::try_from(task);
+    words.unwrap_or_else(|too_many| panic!("{too_many}: {task:?}"))
+}
+
+/// A data call on a record's words. They come back whether it is refused or not, so that a refusal that changes them shows.
+fn on_words<T>(task: &mut Task, call: impl FnOnce(&mut task::Task) -> T) -> T {
+    let mut words = words_of(task);
+    let answer = call(&mut words);
+    *task = (&words).into();
+    answer
 }
 
 impl Engine for Drawbevel {
@@ -54,10 +71,12 @@ impl Engine for Drawbevel {
         &mut self,
         connection: u32,
         ticket: u32,
+        task: &Task,
         out: &mut [u8],
         response: &Response,
     ) -> Result<u32, Refusal> {
-        self.session.send(connection, ticket, out, response)
+        let task = words_of(task);
+        self.session.send(connection, ticket, &task, out, response)
     }
 
     #[inline]
@@ -71,8 +90,15 @@ impl Engine for Drawbevel {
     }
 
     #[inline]
-    fn resend(&mut self, connection: u32, stat_sn: u32, out: &mut [u8]) -> Result<u32, Refusal> {
-        self.session.resend(connection, stat_sn, out)
+    fn resend(
+        &mut self,
+        connection: u32,
+        stat_sn: u32,
+        task: &Task,
+        out: &mut [u8],
+    ) -> Result<u32, Refusal> {
+        self.session
+            .resend(connection, stat_sn, &words_of(task), out)
     }
 
     #[inline]
@@ -88,6 +114,56 @@ impl Engine for Drawbevel {
     #[inline]
     fn holder(&self, number: u32) -> Holder {
         self.session.holder(number)
+    }
+
+    #[inline]
+    fn task(&self, given: TaskGiven) -> Result<Task, Refusal> {
+        task::Task::new(given).map(|task| (&task).into())
+    }
+
+    #[inline]
+    fn data_in(
+        &mut self,
+        connection: u32,
+        task: &mut Task,
+        out: &mut [u8],
+        pdu: DataInPdu,
+    ) -> Result<(), Refusal> {
+        on_words(task, |task| {
+            self.session.data_in(connection, task, out, pdu)
+        })
+    }
+
+    #[inline]
+    fn r2t(
+        &mut self,
+        connection: u32,
+        task: &mut Task,
+        out: &mut [u8],
+        tag: u32,
+        length: u32,
+    ) -> Result<(), Refusal> {
+        on_words(task, |task| {
+            self.session.r2t(connection, task, out, tag, length)
+        })
+    }
+
+    #[inline]
+    fn data_out(&mut self, connection: u32, task: &mut Task, pdu: &[u8]) -> Result<Came, Refusal> {
+        on_words(task, |task| self.session.data_out(connection, task, pdu))
+    }
+
+    #[inline]
+    fn data_snack(
+        &mut self,
+        connection: u32,
+        task: &mut Task,
+        offset: u32,
+        pdu: &[u8],
+    ) -> Result<DataSnack, Refusal> {
+        on_words(task, |task| {
+            self.session.data_snack(connection, task, offset, pdu)
+        })
     }
 
     #[inline]

@@ -5,6 +5,7 @@
 mod c;
 
 use c::*;
+use calls::{DataInPdu, TaskGiven};
 use std::mem::MaybeUninit;
 
 /// Words of a PDU: the opcode, the common fields and the place of the data, and the kind's own fields.
@@ -51,6 +52,9 @@ impl Packed {
     }
 }
 
+/// What the first word of an answer says from here on; below it is a refusal's number.
+pub const DONE: u32 = 32;
+
 /// A login's answer: 0 or a refusal's number, status, stage, T, CSG, NSG, TSIH, length of the text.
 pub type LoginWords = [u64; 8];
 
@@ -60,6 +64,10 @@ type Headers = [u8; 3072];
 type Tickets = [u32; 64];
 type Statuses = [u8; 6144];
 type StatusTickets = [u32; 128];
+type TaskNumbers = [u32; 12];
+type Wide = [u64; 4];
+type Tags = [u32; 8];
+type Ends = [u64; 8];
 type LoginNumbers = [u64; 8];
 type Values = [u32; 12];
 type Seen = [bool; 28];
@@ -73,6 +81,15 @@ pub struct Parts {
     status_tickets: StatusTickets,
     headers: Headers,
     statuses: Statuses,
+}
+
+/// A task's record: its numbers, and the open R2Ts in a ring.
+#[derive(Clone)]
+pub struct TaskParts {
+    pub numbers: TaskNumbers,
+    pub wide: Wide,
+    pub tags: Tags,
+    pub ends: Ends,
 }
 
 /// A login between requests.
@@ -240,6 +257,7 @@ impl Parts {
         &mut self,
         connection: u32,
         ticket: u32,
+        task: &TaskParts,
         out: &mut [u8],
         words: &ResponseWords,
     ) -> Packed {
@@ -249,6 +267,8 @@ impl Parts {
                 &mut self.maps,
                 &mut self.statuses,
                 &mut self.status_tickets,
+                &task.numbers,
+                &task.wide,
                 connection,
                 ticket,
                 words,
@@ -259,13 +279,21 @@ impl Parts {
     }
 
     #[inline]
-    pub fn resend(&self, connection: u32, stat_sn: u32, out: &mut [u8]) -> Packed {
+    pub fn resend(
+        &self,
+        connection: u32,
+        stat_sn: u32,
+        task: &TaskParts,
+        out: &mut [u8],
+    ) -> Packed {
         Packed(unsafe {
             drawbevel_core_resend(
                 &self.numbers,
                 &self.maps,
                 &self.statuses,
                 &self.status_tickets,
+                &task.numbers,
+                &task.wide,
                 connection,
                 stat_sn,
                 out.as_mut_ptr(),
@@ -291,6 +319,125 @@ impl Parts {
         answer_of(|answer| unsafe {
             drawbevel_core_holder(&self.numbers, &self.maps, &self.tickets, number, answer);
         })
+    }
+
+    #[inline]
+    pub fn data_in(
+        &self,
+        connection: u32,
+        task: &mut TaskParts,
+        out: &mut [u8],
+        pdu: DataInPdu,
+    ) -> Packed {
+        Packed(unsafe {
+            drawbevel_core_data_in(
+                &self.numbers,
+                &self.maps,
+                &mut task.numbers,
+                &mut task.wide,
+                connection,
+                pdu.final_bit,
+                pdu.acknowledge,
+                pdu.data_segment_length,
+                out.as_mut_ptr(),
+                out.len(),
+            )
+        })
+    }
+
+    #[inline]
+    pub fn r2t(
+        &self,
+        connection: u32,
+        task: &mut TaskParts,
+        out: &mut [u8],
+        tag: u32,
+        length: u32,
+    ) -> Packed {
+        Packed(unsafe {
+            drawbevel_core_r2t(
+                &self.numbers,
+                &self.maps,
+                &mut task.numbers,
+                &mut task.wide,
+                &mut task.tags,
+                &mut task.ends,
+                connection,
+                tag,
+                length,
+                out.as_mut_ptr(),
+                out.len(),
+            )
+        })
+    }
+
+    #[inline]
+    pub fn data_out(&self, connection: u32, task: &mut TaskParts, pdu: &[u8]) -> Answer {
+        answer_of(|answer| unsafe {
+            drawbevel_core_data_out(
+                &self.numbers,
+                &self.maps,
+                &mut task.numbers,
+                &mut task.wide,
+                &task.tags,
+                &task.ends,
+                connection,
+                pdu.as_ptr(),
+                pdu.len(),
+                answer,
+            );
+        })
+    }
+
+    #[inline]
+    pub fn data_snack(
+        &self,
+        connection: u32,
+        task: &mut TaskParts,
+        offset: u32,
+        pdu: &[u8],
+    ) -> Answer {
+        answer_of(|answer| unsafe {
+            drawbevel_core_data_snack(
+                &self.numbers,
+                &self.maps,
+                &mut task.numbers,
+                &mut task.wide,
+                connection,
+                offset,
+                pdu.as_ptr(),
+                pdu.len(),
+                answer,
+            );
+        })
+    }
+}
+
+impl TaskParts {
+    /// The record, or a refusal's number.
+    pub fn fresh(given: TaskGiven) -> Result<Self, u32> {
+        let mut task = TaskParts {
+            numbers: [0; 12],
+            wide: [0; 4],
+            tags: [0; 8],
+            ends: [0; 8],
+        };
+        let answer = Packed(unsafe {
+            drawbevel_core_task(
+                &mut task.numbers,
+                &mut task.wide,
+                given.itt,
+                given.lun,
+                given.tag,
+                given.came,
+                given.max_burst,
+                given.max_r2t,
+            )
+        });
+        match answer.parts() {
+            (DONE, _) => Ok(task),
+            (number, _) => Err(number),
+        }
     }
 }
 

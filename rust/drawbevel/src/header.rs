@@ -21,7 +21,7 @@ pub fn length(header: &[u8]) -> Result<u32, Refusal> {
     }
 }
 
-/// Write a response's header into the first 48 bytes of `out`.
+/// Write a response's header into the first 48 bytes of `out`. A Data-In's StatSN is 0, whatever the numbers say.
 #[inline]
 pub fn write(out: &mut [u8], numbers: Numbers, response: &Response) -> Result<(), Refusal> {
     let Numbers {

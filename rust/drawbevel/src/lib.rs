@@ -7,18 +7,20 @@ mod header;
 mod login;
 pub mod login_response;
 mod session;
+mod task;
 mod words;
 
 pub use calls::{
-    Data, Engine, Holder, LoginAnswer, LogoutCounts, Numbers, Offer, Out, Parameters, Pdu, Refusal,
-    Request, Response, Run, Take, Window,
+    Came, Data, DataInPdu, DataSnack, Engine, Holder, LoginAnswer, LogoutCounts, Numbers, Offer,
+    OpenR2t, Out, Parameters, Pdu, Refusal, Request, Response, Run, Take, TaskGiven, Window,
 };
 pub use engine::Drawbevel;
 pub use header::{length, read, write};
 pub use login::Login;
 pub use session::Session;
+pub use task::{Task, TooManyOpen};
 
 /// The fields of each request kind.
 pub mod request {
-    pub use calls::{Login, Logout, NopOut, ScsiCommand, Snack, TaskManagement};
+    pub use calls::{DataOut, Login, Logout, NopOut, ScsiCommand, Snack, TaskManagement};
 }

@@ -1,8 +1,12 @@
 //! A session: one object, its parts lent to the proved functions call by call.
 
-use crate::ffi::{Answer, Packed, Parts};
+use crate::Task;
+use crate::ffi::{Answer, DONE, Packed, Parts};
 use crate::words::{refusal_of, words_of};
-use calls::{Holder, LogoutCounts, Offer, Out, Refusal, Response, Run, Take, Window};
+use calls::{
+    Came, DataInPdu, DataSnack, Holder, LogoutCounts, Offer, Out, Refusal, Response, Run, Take,
+    Window,
+};
 
 /// A session. It holds no pointer and may be moved and cloned; a clone goes its own way.
 #[derive(Clone)]
@@ -10,8 +14,7 @@ pub struct Session {
     parts: Parts,
 }
 
-// What the first word of an answer says; below these it is a refusal's number.
-const DONE: u32 = 32;
+// What the first word of an answer says.
 const KEPT: u32 = 33;
 const DUPLICATE: u32 = 34;
 const PASSED: u32 = 35;
@@ -19,6 +22,7 @@ const BEYOND: u32 = 36;
 const NOTHING: u32 = 38;
 const VOID: u32 = 39;
 const FREE: u32 = 41;
+const RUN: u32 = 43;
 /// The origin of a command that has none.
 const NO_ORIGIN: u32 = 4;
 
@@ -96,17 +100,23 @@ impl Session {
         one(self.parts.open(connection, stat_sn)).map(|_| ())
     }
 
-    /// Send a response; its header is written to `out`. The answer is its StatSN.
+    /// Send a status, with its task's record; its header is written to `out`. The answer is its StatSN. A SCSI Response must have the
+    /// record's Initiator Task Tag and SNACK tag, and gets its ExpDataSN from it: its own `exp_data_sn` isn't looked at. For other
+    /// responses any record will do. A Data-In or an R2T is no status: it is FIELD where it isn't TOOLONG; [`Session::data_in`] and
+    /// [`Session::r2t`] write a task's next ones, [`write`](crate::write()) any.
     #[inline]
     pub fn send(
         &mut self,
         connection: u32,
         ticket: u32,
+        task: &Task,
         out: &mut [u8],
         response: &Response,
     ) -> Result<u32, Refusal> {
         let words = words_of(response);
-        let (_, stat_sn) = one(self.parts.send(connection, ticket, out, &words))?;
+        let (_, stat_sn) = one(self
+            .parts
+            .send(connection, ticket, &task.parts, out, &words))?;
         Ok(stat_sn)
     }
 
@@ -124,10 +134,17 @@ impl Session {
         Ok(Run { first, count })
     }
 
-    /// Write a held status again, to `out`. The answer is its ticket.
+    /// Write a held status again, to `out`. The answer is its ticket. A SCSI Response has ExpDataSN, and the SNACK tag after a SNACK of
+    /// type 3, from its task's record as it is now.
     #[inline]
-    pub fn resend(&self, connection: u32, stat_sn: u32, out: &mut [u8]) -> Result<u32, Refusal> {
-        let (_, ticket) = one(self.parts.resend(connection, stat_sn, out))?;
+    pub fn resend(
+        &self,
+        connection: u32,
+        stat_sn: u32,
+        task: &Task,
+        out: &mut [u8],
+    ) -> Result<u32, Refusal> {
+        let (_, ticket) = one(self.parts.resend(connection, stat_sn, &task.parts, out))?;
         Ok(ticket)
     }
 
@@ -160,5 +177,61 @@ impl Session {
                 origin: origin_of(origin),
             },
         }
+    }
+
+    /// Send the next Data-In of a task; its header is written to `out`.
+    #[inline]
+    pub fn data_in(
+        &self,
+        connection: u32,
+        task: &mut Task,
+        out: &mut [u8],
+        pdu: DataInPdu,
+    ) -> Result<(), Refusal> {
+        one(self.parts.data_in(connection, &mut task.parts, out, pdu)).map(|_| ())
+    }
+
+    /// Send the next R2T of a task, with this Target Transfer Tag and Desired Data Transfer Length; its header is written to `out`.
+    #[inline]
+    pub fn r2t(
+        &self,
+        connection: u32,
+        task: &mut Task,
+        out: &mut [u8],
+        tag: u32,
+        length: u32,
+    ) -> Result<(), Refusal> {
+        let parts = &mut task.parts;
+        one(self.parts.r2t(connection, parts, out, tag, length)).map(|_| ())
+    }
+
+    /// Take a Data-Out, a whole PDU, for the task of its Initiator Task Tag: where its data belong.
+    #[inline]
+    pub fn data_out(&self, connection: u32, task: &mut Task, pdu: &[u8]) -> Result<Came, Refusal> {
+        let answer = self.parts.data_out(connection, &mut task.parts, pdu);
+        let (_, [offset, count, open]) = done(answer)?;
+        Ok(Came {
+            offset,
+            count,
+            open: open as u8,
+        })
+    }
+
+    /// Take a SNACK of type 0, 2 or 3, a whole PDU. A type 0's run the caller sends again itself. After a type 3 Data-In goes on from
+    /// the run's first number, at `offset`: where the acknowledged data end.
+    #[inline]
+    pub fn data_snack(
+        &self,
+        connection: u32,
+        task: &mut Task,
+        offset: u32,
+        pdu: &[u8],
+    ) -> Result<DataSnack, Refusal> {
+        let parts = &mut task.parts;
+        let answer = self.parts.data_snack(connection, parts, offset, pdu);
+        Ok(match done(answer)? {
+            (RUN, [first, count, _]) => DataSnack::Run(Run { first, count }),
+            (_, [count, ..]) => DataSnack::Acknowledged(count),
+        })
     }
 }

@@ -2,7 +2,7 @@
 
 use crate::ffi::{PduWords, ResponseWords};
 use calls::{
-    Data, Login, Logout, NopOut, Pdu, Refusal, Request, Response, ScsiCommand, Snack,
+    Data, DataOut, Login, Logout, NopOut, Pdu, Refusal, Request, Response, ScsiCommand, Snack,
     TaskManagement,
 };
 
@@ -84,6 +84,15 @@ pub fn pdu_of(w: &PduWords) -> Result<Pdu, Refusal> {
             };
             pdu(w, Request::Login(login))
         }
+        0x05 => {
+            let data_out = DataOut {
+                final_bit: own(0) & 1 != 0,
+                ttt: own(1) as u32,
+                data_sn: own(2) as u32,
+                buffer_offset: own(3) as u32,
+            };
+            pdu(w, Request::DataOut(data_out))
+        }
         0x06 => {
             let logout = Logout {
                 reason: own(0) as u8,
@@ -125,6 +134,7 @@ pub fn words_of(response: &Response) -> ResponseWords {
             itt,
             snack_tag,
             residual,
+            exp_data_sn,
         } => [
             0x21,
             overflow.into(),
@@ -135,7 +145,7 @@ pub fn words_of(response: &Response) -> ResponseWords {
             itt.into(),
             snack_tag.into(),
             residual.into(),
-            0,
+            exp_data_sn.into(),
         ],
         Response::TaskManagement { response, itt } => {
             [0x22, response.into(), itt.into(), 0, 0, 0, 0, 0, 0, 0]
@@ -162,6 +172,27 @@ pub fn words_of(response: &Response) -> ResponseWords {
             status_class.into(),
             status_detail.into(),
         ],
+        Response::DataIn {
+            final_bit,
+            acknowledge,
+            data_segment_length,
+            lun,
+            itt,
+            ttt,
+            data_sn,
+            buffer_offset,
+        } => [
+            0x25,
+            final_bit.into(),
+            acknowledge.into(),
+            data_segment_length.into(),
+            lun,
+            itt.into(),
+            ttt.into(),
+            data_sn.into(),
+            buffer_offset.into(),
+            0,
+        ],
         Response::Logout {
             response,
             itt,
@@ -177,6 +208,29 @@ pub fn words_of(response: &Response) -> ResponseWords {
                 retain,
                 0,
                 0,
+                0,
+                0,
+                0,
+            ]
+        }
+        Response::R2t {
+            lun,
+            itt,
+            ttt,
+            r2t_sn,
+            buffer_offset,
+            desired_data_transfer_length,
+        } => {
+            let length = desired_data_transfer_length.into();
+            let (sn, offset) = (r2t_sn.into(), buffer_offset.into());
+            [
+                0x31,
+                lun,
+                itt.into(),
+                ttt.into(),
+                sn,
+                offset,
+                length,
                 0,
                 0,
                 0,

@@ -1,8 +1,8 @@
 //! The declarations, in the order and with the widths of `include/drawbevel.h`.
 
 use super::{
-    Answer, Headers, LoginNumbers, LoginWords, Maps, Numbers, ResponseWords, Seen, StatusTickets,
-    Statuses, Tickets, Values,
+    Answer, Ends, Headers, LoginNumbers, LoginWords, Maps, Numbers, ResponseWords, Seen,
+    StatusTickets, Statuses, Tags, TaskNumbers, Tickets, Values, Wide,
 };
 
 unsafe extern "C" {
@@ -83,6 +83,8 @@ unsafe extern "C" {
         maps: *mut Maps,
         statuses: *mut Statuses,
         status_tickets: *mut StatusTickets,
+        task: *const TaskNumbers,
+        wide: *const Wide,
         connection: u32,
         ticket: u32,
         words: *const ResponseWords,
@@ -94,6 +96,8 @@ unsafe extern "C" {
         maps: *const Maps,
         statuses: *const Statuses,
         status_tickets: *const StatusTickets,
+        task: *const TaskNumbers,
+        wide: *const Wide,
         connection: u32,
         stat_sn: u32,
         out: *mut u8,
@@ -106,6 +110,64 @@ unsafe extern "C" {
         maps: *const Maps,
         tickets: *const Tickets,
         number: u32,
+        answer: *mut Answer,
+    );
+    pub fn drawbevel_core_task(
+        task: *mut TaskNumbers,
+        wide: *mut Wide,
+        itt: u32,
+        lun: u64,
+        transfer_tag: u32,
+        immediate: u32,
+        max_burst_length: u32,
+        max_outstanding_r2t: u16,
+    ) -> u64;
+    pub fn drawbevel_core_data_in(
+        numbers: *const Numbers,
+        maps: *const Maps,
+        task: *mut TaskNumbers,
+        wide: *mut Wide,
+        connection: u32,
+        is_final: bool,
+        acknowledge: bool,
+        data_segment_length: u32,
+        out: *mut u8,
+        length: usize,
+    ) -> u64;
+    pub fn drawbevel_core_r2t(
+        numbers: *const Numbers,
+        maps: *const Maps,
+        task: *mut TaskNumbers,
+        wide: *mut Wide,
+        tags: *mut Tags,
+        ends: *mut Ends,
+        connection: u32,
+        tag: u32,
+        desired: u32,
+        out: *mut u8,
+        length: usize,
+    ) -> u64;
+    pub fn drawbevel_core_data_out(
+        numbers: *const Numbers,
+        maps: *const Maps,
+        task: *mut TaskNumbers,
+        wide: *mut Wide,
+        tags: *const Tags,
+        ends: *const Ends,
+        connection: u32,
+        pdu: *const u8,
+        length: usize,
+        answer: *mut Answer,
+    );
+    pub fn drawbevel_core_data_snack(
+        numbers: *const Numbers,
+        maps: *const Maps,
+        task: *mut TaskNumbers,
+        wide: *mut Wide,
+        connection: u32,
+        offset: u32,
+        pdu: *const u8,
+        length: usize,
         answer: *mut Answer,
     );
     pub fn drawbevel_core_login_fresh(

@@ -1,8 +1,8 @@
 //! What document 01 says of a send and of a write of any words.
 
 use crate::kinds::{Kind, Width, kind_of};
-use crate::raw::ResponseWords;
-use calls::{Engine, HEADER_BYTES, Numbers, Refusal, Response};
+use crate::raw::{self, ResponseWords};
+use calls::{Engine, HEADER_BYTES, Numbers, OpenR2t, Refusal, Response, Task};
 use model::Model;
 
 /// A rule of writing that words break.
@@ -72,11 +72,20 @@ fn response_of(kind: &Kind, words: &ResponseWords) -> Response {
             itt: w("ITT") as u32,
         },
         0x23 => login_response(w),
+        0x25 => data_in(w),
         0x26 => Response::Logout {
             response: w("response") as u8,
             itt: w("ITT") as u32,
             time2wait: w("Time2Wait") as u16,
             time2retain: w("Time2Retain") as u16,
+        },
+        0x31 => Response::R2t {
+            lun: w("LUN"),
+            itt: w("ITT") as u32,
+            ttt: w("TTT") as u32,
+            r2t_sn: w("R2TSN") as u32,
+            buffer_offset: w("buffer offset") as u32,
+            desired_data_transfer_length: w("desired length") as u32,
         },
         _ => Response::Reject {
             reason: w("reason") as u8,
@@ -94,6 +103,20 @@ fn scsi_response(w: impl Fn(&str) -> u64) -> Response {
         itt: w("ITT") as u32,
         snack_tag: w("SNACK tag") as u32,
         residual: w("residual") as u32,
+        exp_data_sn: w("ExpDataSN") as u32,
+    }
+}
+
+fn data_in(w: impl Fn(&str) -> u64) -> Response {
+    Response::DataIn {
+        final_bit: w("F") == 1,
+        acknowledge: w("A") == 1,
+        data_segment_length: w("data length") as u32,
+        lun: w("LUN"),
+        itt: w("ITT") as u32,
+        ttt: w("TTT") as u32,
+        data_sn: w("DataSN") as u32,
+        buffer_offset: w("buffer offset") as u32,
     }
 }
 
@@ -126,6 +149,39 @@ pub fn write(out: &mut [u8], words: &ResponseWords, numbers: [u32; 3]) -> Result
     Model::default().write(out, numbers, &response)
 }
 
+/// The record that any words are. A place in the ring is a number modulo 8; no rule asks for more than the first of the open R2Ts, and
+/// for how many there are up to 9, or for a MaxOutstandingR2T above 255.
+pub fn record(task: &raw::Task) -> Task {
+    let raw::Task {
+        numbers: n,
+        wide,
+        tags,
+        ends,
+    } = task;
+    let place = |k: u32| (n[10] % 8 + k) as usize % 8;
+    let open = (0..n[11].min(9)).map(|k| OpenR2t {
+        tag: tags[place(k)],
+        end: ends[place(k)],
+    });
+    Task {
+        itt: n[0],
+        lun: wide[0],
+        tag: n[1],
+        max_burst: n[2],
+        max_r2t: n[3].min(255) as u8,
+        sent: n[4],
+        acknowledged: n[5],
+        any_data_in: n[6] != 0,
+        offset: wide[1],
+        burst: n[8],
+        snack_tag: n[7],
+        asked: wide[2],
+        came: wide[3],
+        data_sn: n[9],
+        open: open.collect(),
+    }
+}
+
 /// A session as the rules have it: the model, and which connections are open.
 pub struct Book {
     pub model: Model,
@@ -142,11 +198,13 @@ impl Book {
         }
     }
 
-    /// A send: BUFFER, NOCONN, CLOSED, TOOLONG, FIELD, FULL, in this order; or the StatSN, and the header in the lent bytes.
+    /// A send: BUFFER, NOCONN, CLOSED, TOOLONG, FIELD, FULL, in this order; or the StatSN, and the header in the lent bytes. What is no
+    /// status is FIELD, and a SCSI Response with other tags than the record's.
     pub fn send(
         &mut self,
         connection: u32,
         ticket: u32,
+        task: &raw::Task,
         words: &ResponseWords,
         out: &mut [u8],
     ) -> Result<u32, Refusal> {
@@ -159,6 +217,10 @@ impl Book {
             Some(true) => {}
         }
         let response = judged(words)?;
-        self.model.send(connection, ticket, out, &response)
+        if !kind_of(words).is_some_and(Kind::is_status) {
+            return Err(Refusal::Field);
+        }
+        self.model
+            .send(connection, ticket, &record(task), out, &response)
     }
 }

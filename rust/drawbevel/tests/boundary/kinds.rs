@@ -1,4 +1,4 @@
-//! The six kinds of response as words: the opcode, then the fields in the order of `drawbevel_response_words`, each with the width
+//! The eight kinds of response as words: the opcode, then the fields in the order of `drawbevel_response_words`, each with the width
 //! that its place in the header has (document 01, "Headers written"; RFC 7143).
 
 use crate::raw::ResponseWords;
@@ -50,6 +50,11 @@ impl Kind {
         self.fields.iter().any(|field| field.1 == DataLength)
     }
 
+    /// Whether a send takes the kind. Data-In and R2T are written alone.
+    pub fn is_status(&self) -> bool {
+        !matches!(self.opcode, 0x25 | 0x31)
+    }
+
     /// The word's place of a field of this name.
     pub fn place(&self, name: &str) -> usize {
         let found = self.fields.iter().position(|field| field.0 == name);
@@ -87,8 +92,9 @@ pub const SCSI: Kind = Kind {
         ("ITT", Bits(32)),
         ("SNACK tag", Bits(32)),
         ("residual", Bits(32)),
+        ("ExpDataSN", Bits(32)),
     ],
-    good: [0x21, 0, 0, 1, 2, 5, 0x10, 0x11, 0x12, 0],
+    good: [0x21, 0, 0, 1, 2, 5, 0x10, 0x11, 0x12, 0x13],
 };
 pub const TASK_MANAGEMENT: Kind = Kind {
     name: "Task Management Response",
@@ -112,6 +118,32 @@ pub const LOGIN: Kind = Kind {
     ],
     good: [0x23, 1, 1, 3, 6, 0x0809_0a0b_0c0d, 0x0e0f, 0x10, 1, 2],
 };
+pub const DATA_IN: Kind = Kind {
+    name: "Data-In",
+    opcode: 0x25,
+    fields: &[
+        ("F", Bits(1)),
+        ("A", Bits(1)),
+        ("data length", DataLength),
+        ("LUN", Bits(64)),
+        ("ITT", Bits(32)),
+        ("TTT", Bits(32)),
+        ("DataSN", Bits(32)),
+        ("buffer offset", Bits(32)),
+    ],
+    good: [
+        0x25,
+        0,
+        1,
+        7,
+        0x0809_0a0b_0c0d_0e0f,
+        0x10,
+        0x11,
+        0x12,
+        0x13,
+        0,
+    ],
+};
 pub const LOGOUT: Kind = Kind {
     name: "Logout Response",
     opcode: 0x26,
@@ -123,6 +155,30 @@ pub const LOGOUT: Kind = Kind {
     ],
     good: [0x26, 1, 0x10, 2, 20, 0, 0, 0, 0, 0],
 };
+pub const R2T: Kind = Kind {
+    name: "R2T",
+    opcode: 0x31,
+    fields: &[
+        ("LUN", Bits(64)),
+        ("ITT", Bits(32)),
+        ("TTT", Bits(32)),
+        ("R2TSN", Bits(32)),
+        ("buffer offset", Bits(32)),
+        ("desired length", Bits(32)),
+    ],
+    good: [
+        0x31,
+        0x0809_0a0b_0c0d_0e0f,
+        0x10,
+        0x11,
+        0x12,
+        0x13,
+        0x14,
+        0,
+        0,
+        0,
+    ],
+};
 pub const REJECT: Kind = Kind {
     name: "Reject",
     opcode: 0x3f,
@@ -130,27 +186,39 @@ pub const REJECT: Kind = Kind {
     good: [0x3f, 4, 0, 0, 0, 0, 0, 0, 0, 0],
 };
 
-pub const KINDS: [&Kind; 6] = [&NOP_IN, &SCSI, &TASK_MANAGEMENT, &LOGIN, &LOGOUT, &REJECT];
+pub const KINDS: [&Kind; 8] = [
+    &NOP_IN,
+    &SCSI,
+    &TASK_MANAGEMENT,
+    &LOGIN,
+    &DATA_IN,
+    &LOGOUT,
+    &R2T,
+    &REJECT,
+];
 
 /// The kind of these words, by the whole of the opcode word.
 pub fn kind_of(words: &ResponseWords) -> Option<&'static Kind> {
     KINDS.into_iter().find(|kind| kind.opcode == words[0])
 }
 
-/// Opcode words that name no response: beside the six, requests, with I, and the six with bits above theirs.
-pub const NO_KIND: [u64; 16] = [
+/// Opcode words that name no response: beside the eight, requests, with I, and some of the eight with bits above theirs.
+pub const NO_KIND: [u64; 19] = [
     0x00,
     0x03,
+    0x05,
     0x1f,
     0x24,
-    0x25,
     0x27,
-    0x31,
+    0x30,
+    0x32,
     0x3e,
     0x60,
     0x120,
     0x1_0021,
     0x1_0000_0020,
+    0x1_0000_0025,
+    0x1_0000_0031,
     0x1_0000_003f,
     1 << 63,
     0x23 << 32,

@@ -13,6 +13,8 @@ mod questions;
 mod random;
 mod raw;
 mod read_refusals;
+mod read_words;
 mod session_refusals;
 mod stand;
+mod task;
 mod widths;

@@ -1,6 +1,6 @@
 //! The order of refusals: BUFFER; a send then NOCONN, CLOSED; then TOOLONG, FIELD; a send then FULL.
 
-use crate::kinds::{KINDS, LOGIN, NO_KIND, NOP_IN, SCSI, Width};
+use crate::kinds::{DATA_IN, KINDS, LOGIN, NO_KIND, NOP_IN, R2T, SCSI, Width};
 use crate::raw::ResponseWords;
 use crate::stand::*;
 
@@ -96,7 +96,7 @@ fn no_connection_and_a_closed_one_come_before_what_is_sent() {
 
 #[test]
 fn too_long_comes_before_a_field_that_is_too_wide() {
-    for kind in [&NOP_IN, &SCSI, &LOGIN] {
+    for kind in [&NOP_IN, &SCSI, &LOGIN, &DATA_IN] {
         for (name, width) in kind.fields {
             if matches!(width, Width::DataLength | Width::Bits(64)) {
                 continue;
@@ -138,10 +138,29 @@ fn what_cannot_be_written_comes_before_full() {
 }
 
 #[test]
-fn a_full_ledger_refuses_every_good_response_but_the_nop_in_without_a_tag() {
-    for kind in KINDS {
+fn a_full_ledger_refuses_every_good_status_but_the_nop_in_without_a_tag() {
+    for kind in KINDS.into_iter().filter(|kind| kind.is_status()) {
         assert_eq!(sent(FULL_ONE, &kind.good, HEADER), FULL, "{}", kind.name);
     }
     let untagged = NOP_IN.with("ITT", 0xffff_ffff);
     assert_eq!(sent(FULL_ONE, &untagged, HEADER), DONE);
+}
+
+#[test]
+fn a_send_of_what_is_no_status_is_field_before_full() {
+    for words in [DATA_IN.good, R2T.good, DATA_IN.with("ITT", 0xffff_ffff)] {
+        for connection in [OPEN, FULL_ONE] {
+            assert_eq!(sent(connection, &words, HEADER), FIELD, "{words:x?}");
+        }
+    }
+}
+
+#[test]
+fn a_send_of_a_data_in_is_too_long_before_it_is_field() {
+    for length in [8193, 1 << 24, 1 << 32, u64::MAX] {
+        let words = DATA_IN.with("data length", length);
+        for connection in [OPEN, FULL_ONE] {
+            assert_eq!(sent(connection, &words, HEADER), TOOLONG, "{words:x?}");
+        }
+    }
 }

@@ -9,7 +9,7 @@ mod pair;
 use crate::coverage::Coverage;
 use difftest::seed;
 use fault::Fault;
-use generate::{connection, lent, words};
+use generate::{connection, lent, task, words};
 use marks::Call;
 use pair::{Checked, Pair, is_ping};
 use testkit::Rng;
@@ -28,10 +28,13 @@ fn step(pair: &mut Pair, rng: &mut Rng, coverage: &mut Coverage) -> Checked<()> 
         (Call::Write, pair.write(&words, lent, numbers)?)
     } else {
         let connection = connection(rng);
-        let is_full = is_ping(&words) && pair.is_full(connection);
-        let answer = pair.send(connection, rng.u32(), &words, lent)?;
-        if is_full && answer == 32 {
-            coverage.saw(marks::PING_AT_FULL.into());
+        let task = task(rng, &words);
+        let at_full = marks::at_full(&words).filter(|_| pair.is_full(connection));
+        let answer = pair.send(connection, rng.u32(), &task, &words, lent)?;
+        if let Some((mark, said)) = at_full
+            && said == answer
+        {
+            coverage.saw(mark);
         }
         (Call::Send, answer)
     };

@@ -6,6 +6,7 @@
 mod c;
 
 use c::*;
+use calls::{DataInPdu, TaskGiven};
 
 pub type Answer = [u32; 4];
 pub type LoginWords = [u64; 8];
@@ -16,6 +17,10 @@ type Headers = [u8; 3072];
 type Tickets = [u32; 64];
 type Statuses = [u8; 6144];
 type StatusTickets = [u32; 128];
+type TaskNumbers = [u32; 12];
+type Wide = [u64; 4];
+type Tags = [u32; 8];
+type Ends = [u64; 8];
 type LoginNumbers = [u64; 8];
 type Values = [u32; 12];
 type Seen = [bool; 28];
@@ -29,6 +34,15 @@ pub struct Session {
     pub tickets: Tickets,
     pub statuses: Statuses,
     pub status_tickets: StatusTickets,
+}
+
+/// All arrays of a task's record.
+#[derive(Clone, Copy, Debug, PartialEq)]
+pub struct Task {
+    pub numbers: TaskNumbers,
+    pub wide: Wide,
+    pub tags: Tags,
+    pub ends: Ends,
 }
 
 /// All arrays of a login.
@@ -147,20 +161,65 @@ impl Session {
         &mut self,
         connection: u32,
         ticket: u32,
+        task: &Task,
         words: &ResponseWords,
         out: &mut Lent,
     ) -> u64 {
         let (n, m) = (&mut self.numbers, &mut self.maps);
         let (s, t) = (&mut self.statuses, &mut self.status_tickets);
+        let (tn, tw) = (&task.numbers, &task.wide);
         let (at, lent) = (out.part().as_mut_ptr(), out.lent);
-        unsafe { drawbevel_core_send(n, m, s, t, connection, ticket, words, at, lent) }
+        unsafe { drawbevel_core_send(n, m, s, t, tn, tw, connection, ticket, words, at, lent) }
     }
 
-    pub fn resend(&self, connection: u32, stat_sn: u32, out: &mut Lent) -> u64 {
+    pub fn resend(&self, connection: u32, stat_sn: u32, task: &Task, out: &mut Lent) -> u64 {
         let (n, m) = (&self.numbers, &self.maps);
         let (s, t) = (&self.statuses, &self.status_tickets);
+        let (tn, tw) = (&task.numbers, &task.wide);
         let (at, lent) = (out.part().as_mut_ptr(), out.lent);
-        unsafe { drawbevel_core_resend(n, m, s, t, connection, stat_sn, at, lent) }
+        unsafe { drawbevel_core_resend(n, m, s, t, tn, tw, connection, stat_sn, at, lent) }
+    }
+
+    pub fn data_in(&self, connection: u32, task: &mut Task, pdu: DataInPdu, out: &mut Lent) -> u64 {
+        let (n, m) = (&self.numbers, &self.maps);
+        let (tn, tw) = (&mut task.numbers, &mut task.wide);
+        let (f, a, length) = (pdu.final_bit, pdu.acknowledge, pdu.data_segment_length);
+        let (at, lent) = (out.part().as_mut_ptr(), out.lent);
+        unsafe { drawbevel_core_data_in(n, m, tn, tw, connection, f, a, length, at, lent) }
+    }
+
+    pub fn r2t(
+        &self,
+        connection: u32,
+        task: &mut Task,
+        tag: u32,
+        length: u32,
+        out: &mut Lent,
+    ) -> u64 {
+        let (n, m) = (&self.numbers, &self.maps);
+        let (tn, tw) = (&mut task.numbers, &mut task.wide);
+        let (tt, te) = (&mut task.tags, &mut task.ends);
+        let (at, lent) = (out.part().as_mut_ptr(), out.lent);
+        unsafe { drawbevel_core_r2t(n, m, tn, tw, tt, te, connection, tag, length, at, lent) }
+    }
+
+    pub fn data_out(&self, connection: u32, task: &mut Task, pdu: &[u8]) -> Answer {
+        let (n, m) = (&self.numbers, &self.maps);
+        let (tn, tw) = (&mut task.numbers, &mut task.wide);
+        let (tt, te) = (&task.tags, &task.ends);
+        let (at, length) = (pdu.as_ptr(), pdu.len());
+        answer_of(|answer| unsafe {
+            drawbevel_core_data_out(n, m, tn, tw, tt, te, connection, at, length, answer);
+        })
+    }
+
+    pub fn data_snack(&self, connection: u32, task: &mut Task, offset: u32, pdu: &[u8]) -> Answer {
+        let (n, m) = (&self.numbers, &self.maps);
+        let (tn, tw) = (&mut task.numbers, &mut task.wide);
+        let (at, length) = (pdu.as_ptr(), pdu.len());
+        answer_of(|answer| unsafe {
+            drawbevel_core_data_snack(n, m, tn, tw, connection, offset, at, length, answer);
+        })
     }
 
     pub fn window(&self) -> Answer {
@@ -175,6 +234,32 @@ impl Session {
     pub fn holder(&self, number: u32) -> Answer {
         let (n, m, t) = (&self.numbers, &self.maps, &self.tickets);
         answer_of(|answer| unsafe { drawbevel_core_holder(n, m, t, number, answer) })
+    }
+}
+
+impl Task {
+    /// Every word 0.
+    pub const ZERO: Task = Task {
+        numbers: [0; 12],
+        wide: [0; 4],
+        tags: [0; 8],
+        ends: [0; 8],
+    };
+
+    /// Makes a record where this one stands.
+    pub fn make(&mut self, given: TaskGiven) -> u64 {
+        unsafe {
+            drawbevel_core_task(
+                &mut self.numbers,
+                &mut self.wide,
+                given.itt,
+                given.lun,
+                given.tag,
+                given.came,
+                given.max_burst,
+                given.max_r2t,
+            )
+        }
     }
 }
 

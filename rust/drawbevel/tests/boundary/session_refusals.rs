@@ -3,14 +3,18 @@
 
 use crate::coverage::Coverage;
 use crate::kinds::{KINDS, NOP_IN};
-use crate::raw::{Lent, ResponseWords, Session};
+use crate::raw::{Lent, ResponseWords, Session, Task};
 use crate::stand::*;
+use calls::DataInPdu;
 use difftest::seed;
 use testkit::{Bytes, Rng, pdu};
 
 const SEED: u64 = 17_000_005;
-const CALLS: usize = 100_000;
-const NAMES: [&str; 8] = [
+const CALLS: usize = 150_000;
+/// The Initiator Task Tag and the Target Transfer Tag of the records.
+const ITT: u32 = 0x10;
+const TAG: u32 = 0x21;
+const NAMES: [&str; 12] = [
     "offer",
     "take",
     "logout",
@@ -19,20 +23,33 @@ const NAMES: [&str; 8] = [
     "acknowledge",
     "snack",
     "resend",
+    "data-in",
+    "r2t",
+    "data-out",
+    "data-snack",
 ];
 
 /// Plays a call of this name with these arguments, and gives its answer's number.
-fn play(name: &str, s: &mut Session, a: &Arguments, out: &mut Lent) -> u32 {
+fn play(name: &str, s: &mut Session, a: &Arguments, task: &mut Task, out: &mut Lent) -> u32 {
     let (connection, number) = (a.connection, a.number);
+    let pdu = DataInPdu {
+        final_bit: number & 1 != 0,
+        acknowledge: number & 2 != 0,
+        data_segment_length: number,
+    };
     match name {
         "offer" => s.offer(connection, number, &a.pdu) as u32,
         "take" => s.take(out)[0],
         "logout" => s.logout(connection, number as u8)[0],
         "open" => s.open(connection, number) as u32,
-        "send" => s.send(connection, number, &a.words, out) as u32,
+        "send" => s.send(connection, number, task, &a.words, out) as u32,
         "acknowledge" => s.acknowledge(connection, number) as u32,
         "snack" => s.snack(connection, &a.pdu)[0],
-        "resend" => s.resend(connection, number, out) as u32,
+        "resend" => s.resend(connection, number, task, out) as u32,
+        "data-in" => s.data_in(connection, task, pdu, out) as u32,
+        "r2t" => s.r2t(connection, task, number, number, out) as u32,
+        "data-out" => s.data_out(connection, task, &a.pdu)[0],
+        "data-snack" => s.data_snack(connection, task, number, &a.pdu)[0],
         other => unreachable!("no call has the name {other}"),
     }
 }
@@ -41,10 +58,11 @@ fn play(name: &str, s: &mut Session, a: &Arguments, out: &mut Lent) -> u32 {
 #[derive(Clone, Debug)]
 struct Arguments {
     connection: u32,
-    /// A ticket, a reason, a first StatSN, an ExpStatSN or a StatSN.
+    /// A ticket, a reason, a first StatSN, an ExpStatSN, a StatSN, a length, a tag or an offset.
     number: u32,
     pdu: Vec<u8>,
     words: ResponseWords,
+    task: Task,
     lent: usize,
 }
 
@@ -55,6 +73,7 @@ impl Arguments {
             number: 0,
             pdu: pdu::nop_out(7).0,
             words: KINDS[2].good,
+            task: Task::ZERO,
             lent,
         }
     }
@@ -62,9 +81,13 @@ impl Arguments {
 
 /// Plays a call. Where it is refused, nothing has changed.
 fn checked(name: &str, s: &mut Session, a: &Arguments) -> u32 {
-    let (before, mut out) = (s.clone(), Lent::new(a.lent));
-    let answer = play(name, s, a, &mut out);
+    let (before, mut out, mut task) = (s.clone(), Lent::new(a.lent), a.task);
+    let answer = play(name, s, a, &mut task, &mut out);
+    if name.starts_with("data") || name == "r2t" {
+        assert!(*s == before, "{name} changed the session: {a:x?}");
+    }
     if answer < DONE {
+        assert_eq!(task, a.task, "{name} refused with {answer}: {a:x?}");
         assert_eq!(
             out,
             Lent::new(a.lent),
@@ -98,7 +121,7 @@ pub fn odd_sessions() -> Vec<Session> {
 #[test]
 fn a_short_buffer_leaves_odd_words() {
     for mut s in odd_sessions() {
-        for name in ["take", "send", "resend"] {
+        for name in ["take", "send", "resend", "data-in", "r2t"] {
             for lent in [0, 47] {
                 let answer = checked(name, &mut s, &Arguments::new(OPEN, lent));
                 assert_eq!(answer, BUFFER, "{name}");
@@ -128,7 +151,16 @@ fn what_cannot_be_read_or_written_leaves_odd_words() {
             a.number = 3;
             a.pdu = Bytes::new(0x1f, 0x80).0;
             a.words = NOP_IN.with("ITT", 0x1_ffff_ffff);
-            for (name, number) in [("offer", 2), ("snack", 2), ("logout", 3), ("send", 3)] {
+            for (name, number) in [
+                ("offer", 2),
+                ("snack", 2),
+                ("logout", 3),
+                ("send", 3),
+                ("data-out", 2),
+                ("data-snack", 2),
+                ("data-in", 3),
+                ("r2t", 3),
+            ] {
                 let answer = checked(name, &mut s, &a);
                 assert!([CLOSED, number].contains(&answer), "{name}: {answer}");
             }
@@ -190,14 +222,24 @@ fn odd_session(rng: &mut Rng) -> Session {
 fn arguments(rng: &mut Rng) -> Arguments {
     let (ours, theirs) = (rng.u32(), rng.below(400) as u32);
     let words = rng.pick(&KINDS).good;
-    let pdu = match rng.below(9) {
+    let pdu = match rng.below(10) {
         0 => Bytes::new(0x1f, 0x80),
         1 => pdu::nop_out(theirs).resized(47),
         2 => pdu::nop_out(theirs).resized(52),
         3 => pdu::nop_out(theirs).field(5, 3, 8193),
         4 => pdu::scsi_command(theirs).byte(1, 0x07),
         5 => pdu::login(0x87, b""),
-        6 | 7 => pdu::snack(rng.pick(&[0, 1, 1, 1, 2, 3]), theirs, rng.below(40) as u32),
+        6 => pdu::data_out(theirs, ours),
+        7 | 8 => {
+            let kind = rng.pick(&[0, 1, 1, 1, 2, 3]);
+            let snack = pdu::snack(kind, theirs, rng.below(40) as u32);
+            // Of these a data SNACK is the task's.
+            match kind {
+                0 | 3 => snack.itt(ITT),
+                2 => snack.ttt(TAG),
+                _ => snack,
+            }
+        }
         _ => pdu::nop_out(theirs),
     };
     let mut a = Arguments::new(rng.pick(&[0, 0, 1, 1, 2, 3, 4, 0x100]), 0);
@@ -209,6 +251,11 @@ fn arguments(rng: &mut Rng) -> Arguments {
         a.words[place] = odd(rng);
     }
     a.lent = rng.pick(&[0, 47, 48, 48, 48, 64]);
+    a.task.numbers.fill_with(|| odd(rng) as u32);
+    a.task.wide.fill_with(|| odd(rng));
+    a.task.tags.fill_with(|| odd(rng) as u32);
+    a.task.ends.fill_with(|| odd(rng));
+    (a.task.numbers[0], a.task.numbers[1]) = (ITT, TAG);
     a
 }
 
@@ -221,8 +268,11 @@ fn refusals(name: &str) -> &'static [u32] {
         "open" => &[7, 9],
         "send" => &[1, 3, 5, 7, 8, 10],
         "acknowledge" => &[7, 8, 11],
-        "snack" => &[2, 3, 4, 5, 7, 8, 12],
-        _ => &[1, 7, 8, 12],
+        "snack" | "data-snack" => &[2, 3, 4, 5, 7, 8, 12],
+        "resend" => &[1, 7, 8, 12],
+        "data-in" => &[1, 3, 5, 7, 8],
+        "r2t" => &[1, 3, 7, 8],
+        _ => &[2, 3, 4, 5, 7, 8],
     }
 }
 

@@ -1,8 +1,8 @@
 //! A session to put fixed cases to, and the checks that every refusal has in common.
 
 use crate::expected;
-use crate::kinds::TASK_MANAGEMENT;
-use crate::raw::{self, Lent, ResponseWords, Session};
+use crate::kinds::{Kind, SCSI, TASK_MANAGEMENT, kind_of};
+use crate::raw::{self, Lent, ResponseWords, Session, Task};
 use testkit::pdu;
 
 pub const OK: u32 = 0;
@@ -27,6 +27,30 @@ pub const HEADER: usize = 48;
 pub const TICKET: u32 = 0x7e57;
 pub const NUMBERS: [u32; 3] = [0x1819_1a1b, 0x1c1d_1e1f, 0x2021_2223];
 
+/// How many Data-In and R2T the records of the fixed cases have sent.
+pub const SENT: u32 = 0x5152_5354;
+
+/// A record with the tags of a SCSI Response of these words, as far as they fit.
+pub fn record_of(words: &ResponseWords) -> Task {
+    let mut task = Task::ZERO;
+    if words[0] == SCSI.opcode {
+        task.numbers[0] = words[SCSI.place("ITT")] as u32;
+        task.numbers[7] = words[SCSI.place("SNACK tag")] as u32;
+    }
+    (task.numbers[4], task.numbers[6]) = (SENT, 1);
+    task
+}
+
+/// The words as they are sent with that record: a SCSI Response has its ExpDataSN, whatever it states itself.
+fn as_sent(words: &ResponseWords) -> ResponseWords {
+    let mut sent = *words;
+    if words[0] == SCSI.opcode {
+        let is_completed = words[SCSI.place("response")] == 0;
+        sent[SCSI.place("ExpDataSN")] = if is_completed { SENT.into() } else { 0 };
+    }
+    sent
+}
+
 /// The session of the constants above, with a command held.
 pub fn session() -> Session {
     let mut s = Session::fresh(1, 100, 1);
@@ -34,7 +58,8 @@ pub fn session() -> Session {
     assert_eq!(s.open(FULL_ONE, 200) as u32, DONE);
     assert_eq!(s.open(SHUT, 300) as u32, DONE);
     assert_eq!(s.logout(SHUT, 1)[0], DONE);
-    let mut send = |connection| s.send(connection, TICKET, &TASK_MANAGEMENT.good, &mut out) as u32;
+    let plain = &TASK_MANAGEMENT.good;
+    let mut send = |connection| s.send(connection, TICKET, &Task::ZERO, plain, &mut out) as u32;
     assert_eq!(send(OPEN), DONE);
     for _ in 0..32 {
         assert_eq!(send(FULL_ONE), DONE);
@@ -47,8 +72,10 @@ pub fn session() -> Session {
 pub fn sent(connection: u32, words: &ResponseWords, lent: usize) -> u32 {
     let mut s = session();
     let (before, mut out, given) = (s.clone(), Lent::new(lent), *words);
-    let answer = s.send(connection, TICKET, words, &mut out) as u32;
+    let task = record_of(words);
+    let answer = s.send(connection, TICKET, &task, words, &mut out) as u32;
     assert_eq!(*words, given, "the words of the response changed");
+    assert_eq!(task, record_of(words), "the record changed");
     if answer < DONE {
         assert_eq!(out, Lent::new(lent), "a refused send wrote bytes");
         assert!(s == before, "a refused send changed the session");
@@ -72,16 +99,20 @@ pub fn refused(words: &ResponseWords, number: u32) {
     assert_eq!(sent(OPEN, words, HEADER), number, "send of {words:x?}");
 }
 
-/// Both functions take the words, and write the same header but for its numbers.
+/// Both functions take the words, and write the same header but for its numbers; a send of what is no status is FIELD.
 pub fn taken(words: &ResponseWords) {
     let mut wanted = Lent::new(HEADER);
     expected::write(wanted.part(), words, NUMBERS).unwrap();
     let mut out = Lent::new(HEADER);
     assert_eq!(raw::write(&mut out, words, NUMBERS), OK);
     assert_eq!(out, wanted, "write of {words:x?}");
+    if !kind_of(words).is_some_and(Kind::is_status) {
+        assert_eq!(sent(OPEN, words, HEADER), FIELD, "send of {words:x?}");
+        return;
+    }
     let mut out = Lent::new(HEADER);
-    let answer = session().send(OPEN, TICKET, words, &mut out);
+    let answer = session().send(OPEN, TICKET, &record_of(words), words, &mut out);
     assert_eq!(answer, 101 << 32 | u64::from(DONE), "send of {words:x?}");
-    expected::write(wanted.part(), words, [101, 2, 64]).unwrap();
+    expected::write(wanted.part(), &as_sent(words), [101, 2, 64]).unwrap();
     assert_eq!(out, wanted, "send of {words:x?}");
 }

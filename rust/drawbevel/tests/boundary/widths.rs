@@ -1,6 +1,6 @@
 //! Words too wide for their place are refused, not cut; the widest that fit are written whole.
 
-use crate::kinds::{KINDS, LOGIN, LOGOUT, NO_KIND, NOP_IN, SCSI, Width};
+use crate::kinds::{DATA_IN, KINDS, LOGIN, LOGOUT, NO_KIND, NOP_IN, R2T, SCSI, Width};
 use crate::raw::Lent;
 use crate::stand::*;
 
@@ -17,7 +17,7 @@ fn each_field(mut check: impl FnMut(&'static crate::kinds::Kind, &'static str, u
 
 #[test]
 fn data_lengths_above_8192_are_too_long_however_wide() {
-    for kind in [&NOP_IN, &SCSI, &LOGIN] {
+    for kind in [&NOP_IN, &SCSI, &LOGIN, &DATA_IN] {
         for length in [
             8193,
             0x1_0000,
@@ -99,7 +99,22 @@ fn a_flag_above_1_is_field_and_not_set() {
             refused(&SCSI.with(field, word), FIELD);
         }
         refused(&LOGIN.with("T", word), FIELD);
+        for field in ["F", "A"] {
+            refused(&DATA_IN.with(field, word), FIELD);
+        }
     }
+}
+
+/// What a task's calls refuse isn't writing's: a tag that stands for none, a length of 0, an end above 2^32.
+#[test]
+fn data_in_and_r2t_have_no_rule_but_their_widths() {
+    taken(&DATA_IN.with("TTT", 0xffff_ffff));
+    taken(&DATA_IN.with("data length", 0));
+    taken(&R2T.with("TTT", 0xffff_ffff));
+    taken(&R2T.with("desired length", 0));
+    let mut words = R2T.with("desired length", 0xffff_ffff);
+    words[R2T.place("buffer offset")] = 0xffff_ffff;
+    taken(&words);
 }
 
 #[test]
@@ -152,7 +167,13 @@ fn a_nop_in_without_a_tag_uses_up_no_number_and_is_not_stored() {
     let untagged = NOP_IN.with("ITT", 0xffff_ffff);
     for connection in [OPEN, FULL_ONE] {
         let next: u64 = if connection == OPEN { 101 } else { 232 };
-        let answer = s.send(connection, TICKET, &untagged, &mut out);
+        let answer = s.send(
+            connection,
+            TICKET,
+            &record_of(&untagged),
+            &untagged,
+            &mut out,
+        );
         assert_eq!(answer, next << 32 | u64::from(DONE));
         assert!(s == before, "it changed the session");
     }

@@ -1,8 +1,9 @@
 //! What the header has beyond the calls of an engine: its sizes, the names of answers, Login Responses made for the caller, and fields that
 //! hold more than their place in the header.
 
+use crate::data_checks;
 use crate::shim::Library;
-use calls::{Engine, HEADER_BYTES, Numbers, Refusal};
+use calls::{Engine, HEADER_BYTES, Numbers, Refusal, Task};
 use testkit::pdu;
 
 /// A check: it panics where the header is wrong.
@@ -19,6 +20,8 @@ pub const ALL: &[(&str, Check)] = &[
     ("Login Response that refuses", refused),
     ("values too wide", too_wide),
     ("kinds too wide", kinds),
+    ("records made", data_checks::made),
+    ("data calls as the model's", data_checks::as_the_model),
 ];
 
 fn sizes(library: &Library) {
@@ -46,7 +49,7 @@ fn names(library: &Library) {
         "OK", "BUFFER", "OPCODE", "FIELD", "LENGTH", "TOOLONG", "LOGIN", "NOCONN", "CLOSED",
         "OPEN", "FULL", "STALE", "SNACK",
     ];
-    const FROM_32: [&str; 11] = [
+    const FROM_32: [&str; 13] = [
         "DONE",
         "KEPT",
         "DUPLICATE",
@@ -58,11 +61,13 @@ fn names(library: &Library) {
         "COMMAND",
         "FREE",
         "HELD",
+        "RUN",
+        "ACKNOWLEDGED",
     ];
     for number in (0..=64u32).chain([256, u32::MAX]) {
         let wanted = match number {
             0..=12 => FIRST[number as usize],
-            32..=42 => FROM_32[number as usize - 32],
+            32..=44 => FROM_32[number as usize - 32],
             _ => "?",
         };
         assert_eq!(library.answer_name(number), wanted, "{number}");
@@ -117,16 +122,19 @@ fn refused(library: &Library) {
 }
 
 /// The widths of each kind's fields, in the order of RFC 7143's pictures; 0 stands for DataSegmentLength.
-const KINDS: [(u64, &[u32]); 6] = [
+const KINDS: [(u64, &[u32]); 8] = [
     (0x20, &[0, 64, 32, 32]),
-    (0x21, &[1, 1, 8, 8, 0, 32, 32, 32]),
+    (0x21, &[1, 1, 8, 8, 0, 32, 32, 32, 32]),
     (0x22, &[8, 32]),
     (0x23, &[1, 2, 2, 0, 48, 16, 32, 8, 8]),
+    (0x25, &[1, 1, 0, 64, 32, 32, 32, 32]),
     (0x26, &[8, 32, 16, 16]),
+    (0x31, &[64, 32, 32, 32, 32, 32]),
     (0x3f, &[8]),
 ];
 
-/// A response through `write` and through `send`: both take it, or both refuse it and leave every byte and number.
+/// A response through `write` and through `send`: both take it, or both refuse it and leave every byte and number. A Data-In or an R2T that
+/// `write` takes is FIELD to `send`.
 fn both(library: &Library, opcode: u64, fields: &[u64; 9], wanted: Result<(), Refusal>) {
     let mut engine = library.engine();
     let numbers = Numbers {
@@ -137,11 +145,24 @@ fn both(library: &Library, opcode: u64, fields: &[u64; 9], wanted: Result<(), Re
     let fresh = [0x91; HEADER_BYTES];
     let (mut written, mut sent) = (fresh, fresh);
     let wrote = engine.write_fields(&mut written, numbers, opcode, fields);
-    let said = engine.send_fields(0, 9, &mut sent, opcode, fields);
+    // The record of a SCSI Response has its tags.
+    let task = Task {
+        snack_tag: fields[6] as u32,
+        ..Task::fresh_for(fields[5] as u32)
+    };
+    let said = engine.send_fields(0, 9, &task, &mut sent, opcode, fields);
     assert_eq!(wrote, wanted, "{opcode:#x} {fields:x?}");
-    assert_eq!(said.map(|_| ()), wanted, "{opcode:#x} {fields:x?}");
+    let is_status = !matches!(opcode, 0x25 | 0x31);
+    let of_send = match wanted {
+        Ok(()) if !is_status => Err(Refusal::Field),
+        _ => wanted,
+    };
+    assert_eq!(said.map(|_| ()), of_send, "{opcode:#x} {fields:x?}");
     if wanted.is_err() {
-        assert_eq!((written, sent), (fresh, fresh));
+        assert_eq!(written, fresh);
+    }
+    if of_send.is_err() {
+        assert_eq!(sent, fresh);
         assert_eq!(engine.next_stat_sn(0), Ok(1));
     }
 }
@@ -182,7 +203,7 @@ fn kinds(library: &Library) {
             both(library, opcode + above, &[0; 9], Err(Refusal::Field));
         }
     }
-    for opcode in [0x00, 0x24, 0x25, 0x31, 0x32] {
+    for opcode in [0x00, 0x05, 0x24, 0x30, 0x32] {
         both(library, opcode, &[0; 9], Err(Refusal::Field));
     }
 }

@@ -119,7 +119,104 @@ pub const ALL: &[Fault] = &[
         "status_class = status & 0xff;
     response.of.login_response.status_detail = status >> 8;",
     ),
+    (
+        "DataSN and offset of a Data-Out swapped",
+        "data_out.data_sn = own[2];
+        pdu->request.data_out.buffer_offset = own[3];",
+        "data_out.data_sn = own[3];
+        pdu->request.data_out.buffer_offset = own[2];",
+    ),
+    (
+        "F and A of a Data-In swapped",
+        "words[1] = response->of.data_in.is_final;
+        words[2] = response->of.data_in.acknowledge;",
+        "words[2] = response->of.data_in.is_final;
+        words[1] = response->of.data_in.acknowledge;",
+    ),
+    (
+        "DataSN and offset of a Data-In swapped",
+        "words[7] = response->of.data_in.data_sn;
+        words[8] = response->of.data_in.buffer_offset;",
+        "words[8] = response->of.data_in.data_sn;
+        words[7] = response->of.data_in.buffer_offset;",
+    ),
+    (
+        "offset and desired length of an R2T swapped",
+        "words[5] = response->of.r2t.buffer_offset;
+        words[6] = response->of.r2t.desired_data_transfer_length;",
+        "words[6] = response->of.r2t.buffer_offset;
+        words[5] = response->of.r2t.desired_data_transfer_length;",
+    ),
+    (
+        "residual count and ExpDataSN swapped",
+        "words[8] = response->of.scsi_response.residual_count;
+        words[9] = response->of.scsi_response.exp_data_sn;",
+        "words[9] = response->of.scsi_response.residual_count;
+        words[8] = response->of.scsi_response.exp_data_sn;",
+    ),
+    (
+        "offset and count of a Data-Out swapped",
+        "came->offset = a[1];
+    came->count = a[2];",
+        "came->offset = a[2];
+    came->count = a[1];",
+    ),
+    (
+        "first and count of a data SNACK's run swapped",
+        "*first = is_run ? a[1] : 0;
+    *count = is_run ? a[2] : a[1];",
+        "*first = is_run ? a[2] : 0;
+    *count = a[1];",
+    ),
     // ---- arguments
+    (
+        "F and A of a task's Data-In swapped",
+        "connection, is_final,
+                                                                   acknowledge, data",
+        "connection, acknowledge,
+                                                                   is_final, data",
+    ),
+    (
+        "tag and length of a task's R2T swapped",
+        "target_transfer_tag, desired_data_transfer_length, out, lent);",
+        "desired_data_transfer_length, target_transfer_tag, out, lent);",
+    ),
+    (
+        "immediate length and MaxBurstLength swapped",
+        "target_transfer_tag, immediate, max_burst_length,
+                                     max_outstanding_r2t);",
+        "target_transfer_tag, max_burst_length, immediate,
+                                     max_outstanding_r2t);",
+    ),
+    (
+        "the tags of a record swapped",
+        "task->wide, initiator_task_tag, lun, target_transfer_tag,",
+        "task->wide, target_transfer_tag, lun, initiator_task_tag,",
+    ),
+    (
+        "a wrong array for a record's numbers of 64 bits",
+        "task->wide, task->tags, task->ends, connection, pdu, length, a);",
+        "task->ends, task->tags, task->ends, connection, pdu, length, a);",
+    ),
+    (
+        "connection and offset of a data SNACK swapped",
+        "task->wide, connection, offset, pdu,",
+        "task->wide, offset, connection, pdu,",
+    ),
+    (
+        "connection and ticket of a send swapped",
+        "task->wide, connection, ticket,
+",
+        "task->wide, ticket, connection,
+",
+    ),
+    (
+        "a wrong array for a resend's record",
+        "session->status_tickets, task->numbers, task->wide,
+                                       connection, stat_sn, out, lent);",
+        "session->status_tickets, session->numbers, task->wide,
+                                       connection, stat_sn, out, lent);",
+    ),
     (
         "connection and ticket of an offer swapped",
         "session->tickets, connection,
@@ -163,13 +260,15 @@ pub const ALL: &[Fault] = &[
     ),
     (
         "a wrong array for a sent header",
-        "session->statuses, session->status_tickets, connection, ticket, words,",
-        "session->headers, session->status_tickets, connection, ticket, words,",
+        "session->statuses, session->status_tickets, task->numbers, task->wide, connection, ticket,",
+        "session->headers, session->status_tickets, task->numbers, task->wide, connection, ticket,",
     ),
     (
         "a wrong array for the tickets of a resend",
-        "session->statuses, session->status_tickets, connection, stat_sn, out,",
-        "session->statuses, session->tickets, connection, stat_sn, out,",
+        "session->statuses, session->status_tickets, task->numbers, task->wide,
+                                       connection, stat_sn,",
+        "session->statuses, session->tickets, task->numbers, task->wide,
+                                       connection, stat_sn,",
     ),
     // ---- constants
     (
@@ -189,7 +288,14 @@ pub const ALL: &[Fault] = &[
     (
         "HELD with another number",
         "DRAWBEVEL_HELD = 42",
-        "DRAWBEVEL_HELD = 43",
+        "DRAWBEVEL_HELD = 45",
+    ),
+    (
+        "RUN and ACKNOWLEDGED with each other's number",
+        "DRAWBEVEL_RUN = 43,       /* Data-In and R2T of a task are to be sent again */
+    DRAWBEVEL_ACKNOWLEDGED = 44 ",
+        "DRAWBEVEL_RUN = 44,       /* Data-In and R2T of a task are to be sent again */
+    DRAWBEVEL_ACKNOWLEDGED = 43 ",
     ),
     (
         "two keys swapped",
@@ -227,6 +333,21 @@ pub const ALL: &[Fault] = &[
     DRAWBEVEL_LOGIN_RESPONSE = 0x22,",
     ),
     (
+        "Data-Out with another's opcode",
+        "DRAWBEVEL_DATA_OUT = 0x05,",
+        "DRAWBEVEL_DATA_OUT = 0x04,",
+    ),
+    (
+        "Data-In with another's opcode",
+        "DRAWBEVEL_DATA_IN = 0x25,",
+        "DRAWBEVEL_DATA_IN = 0x24,",
+    ),
+    (
+        "R2T with another's opcode",
+        "DRAWBEVEL_R2T = 0x31,",
+        "DRAWBEVEL_R2T = 0x32,",
+    ),
+    (
         "NO_ORIGIN a connection's number",
         "DRAWBEVEL_NO_ORIGIN = 4 ",
         "DRAWBEVEL_NO_ORIGIN = 3 ",
@@ -244,6 +365,26 @@ pub const ALL: &[Fault] = &[
         pdu->request.snack.run_length = own[3];",
         "pdu->request.snack.beg_run = own[1];
         pdu->request.snack.run_length = own[2];",
+    ),
+    (
+        "F of a Data-Out not set",
+        "        pdu->request.data_out.is_final = own[0];\n",
+        "",
+    ),
+    (
+        "ExpDataSN of a SCSI Response not taken",
+        "        words[9] = response->of.scsi_response.exp_data_sn;\n",
+        "",
+    ),
+    (
+        "data length of a Data-In cut to 32 bits",
+        "words[3] = response->of.data_in.data_segment_length;",
+        "words[3] = (uint32_t)response->of.data_in.data_segment_length;",
+    ),
+    (
+        "R2TSN of an R2T cut to 32 bits",
+        "words[4] = response->of.r2t.r2t_sn;",
+        "words[4] = (uint32_t)response->of.r2t.r2t_sn;",
     ),
     (
         "a refused read changes the PDU",
@@ -309,6 +450,28 @@ pub const ALL: &[Fault] = &[
         "connection);
     if (a >> 32)
         *stat_sn = (uint32_t)(a >> 32);",
+    ),
+    (
+        "open R2Ts not said",
+        "came->open = a[3];",
+        "came->open = 0;",
+    ),
+    (
+        "offset of a data SNACK left out",
+        "connection, offset, pdu, length, a);
+    is_run",
+        "connection, 0 * offset, pdu, length, a);
+    is_run",
+    ),
+    (
+        "the ring of a fresh record not set",
+        "task->ends[i] = 0;",
+        "task->ends[i] += 0;",
+    ),
+    (
+        "the ring set where a making is refused",
+        "i < 8 && (uint32_t)a == DRAWBEVEL_DONE; i++",
+        "i < 8; i++",
     ),
     // ---- beyond the calls
     (

@@ -2,8 +2,10 @@
 //! headers, each of which must be found.
 
 mod checks;
+mod data_checks;
 mod declared;
 mod faults;
+mod record;
 mod shim;
 
 use difftest::{Area, Report, run, seed};
@@ -93,7 +95,13 @@ fn the_shim_uses_every_field() {
         let own = each.fields.iter().filter(|(kind, _)| !is_struct(kind));
         wanted.extend(own.map(|(_, field)| (owner.to_owned(), field.to_owned())));
     }
-    for (owner, field) in [("login", "cid"), ("reject", "reason"), ("held", "ticket")] {
+    for (owner, field) in [
+        ("login", "cid"),
+        ("reject", "reason"),
+        ("held", "ticket"),
+        ("task", "ends"),
+        ("came", "open"),
+    ] {
         let known = (owner.to_owned(), field.to_owned());
         assert!(wanted.contains(&known), "{known:?} wasn't seen");
     }

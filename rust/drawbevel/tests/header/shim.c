@@ -12,7 +12,7 @@
 
 enum {
     NO_ANSWER = 1000, /* a number that the header has no name for */
-    TOUCHED = 1001,   /* a refused read that changed the PDU */
+    TOUCHED = 1001,   /* a refusal that changed the PDU or the record */
     NONE = 255        /* no origin */
 };
 
@@ -33,6 +33,12 @@ static const enum drawbevel_key KEYS[12] = {
     DRAWBEVEL_DEFAULT_TIME2WAIT,
     DRAWBEVEL_DEFAULT_TIME2RETAIN,
     DRAWBEVEL_ERROR_RECOVERY_LEVEL
+};
+
+/* A record's words in an order of the tests' own. */
+struct words {
+    uint32_t numbers[12], tags[8];
+    uint64_t wide[4], ends[8];
 };
 
 struct shim {
@@ -67,6 +73,8 @@ static uint32_t number(enum drawbevel_answer answer)
     case DRAWBEVEL_COMMAND: return 40;
     case DRAWBEVEL_FREE: return 41;
     case DRAWBEVEL_HELD: return 42;
+    case DRAWBEVEL_RUN: return 43;
+    case DRAWBEVEL_ACKNOWLEDGED: return 44;
     default: return NO_ANSWER;
     }
 }
@@ -99,6 +107,7 @@ static struct drawbevel_response response_of(uint64_t opcode, const uint64_t fie
         response.of.scsi_response.initiator_task_tag = fields[5];
         response.of.scsi_response.snack_tag = fields[6];
         response.of.scsi_response.residual_count = fields[7];
+        response.of.scsi_response.exp_data_sn = fields[8];
         break;
     case 0x22:
         response.kind = DRAWBEVEL_TASK_MANAGEMENT_RESPONSE;
@@ -117,12 +126,32 @@ static struct drawbevel_response response_of(uint64_t opcode, const uint64_t fie
         response.of.login_response.status_class = fields[7];
         response.of.login_response.status_detail = fields[8];
         break;
+    case 0x25:
+        response.kind = DRAWBEVEL_DATA_IN;
+        response.of.data_in.is_final = fields[0];
+        response.of.data_in.acknowledge = fields[1];
+        response.of.data_in.data_segment_length = fields[2];
+        response.of.data_in.lun = fields[3];
+        response.of.data_in.initiator_task_tag = fields[4];
+        response.of.data_in.target_transfer_tag = fields[5];
+        response.of.data_in.data_sn = fields[6];
+        response.of.data_in.buffer_offset = fields[7];
+        break;
     case 0x26:
         response.kind = DRAWBEVEL_LOGOUT_RESPONSE;
         response.of.logout_response.response = fields[0];
         response.of.logout_response.initiator_task_tag = fields[1];
         response.of.logout_response.time2wait = fields[2];
         response.of.logout_response.time2retain = fields[3];
+        break;
+    case 0x31:
+        response.kind = DRAWBEVEL_R2T;
+        response.of.r2t.lun = fields[0];
+        response.of.r2t.initiator_task_tag = fields[1];
+        response.of.r2t.target_transfer_tag = fields[2];
+        response.of.r2t.r2t_sn = fields[3];
+        response.of.r2t.buffer_offset = fields[4];
+        response.of.r2t.desired_data_transfer_length = fields[5];
         break;
     case 0x3f:
         response.kind = DRAWBEVEL_REJECT;
@@ -150,12 +179,44 @@ static void login_response_fields(const struct drawbevel_response *response, uin
     answer[9] = response->of.login_response.status_detail;
 }
 
+/* The record of its words. */
+static struct drawbevel_task task_of(const struct words *words)
+{
+    struct drawbevel_task task;
+    memcpy(task.numbers, words->numbers, sizeof task.numbers);
+    memcpy(task.tags, words->tags, sizeof task.tags);
+    memcpy(task.wide, words->wide, sizeof task.wide);
+    memcpy(task.ends, words->ends, sizeof task.ends);
+    return task;
+}
+
+/* The words of a record after a call: a refusal changes none. */
+static uint32_t words_after(uint32_t said, const struct drawbevel_task *task, struct words *words)
+{
+    struct words before;
+    memcpy(&before, words, sizeof before);
+    memcpy(words->numbers, task->numbers, sizeof words->numbers);
+    memcpy(words->tags, task->tags, sizeof words->tags);
+    memcpy(words->wide, task->wide, sizeof words->wide);
+    memcpy(words->ends, task->ends, sizeof words->ends);
+    return drawbevel_is_refusal(said) && memcmp(&before, words, sizeof before) != 0 ? (uint32_t)TOUCHED : said;
+}
+
 /* A session and a login begun in memory full of a byte. */
 static void begin(struct shim *shim, int byte)
 {
     memset(shim, byte, sizeof *shim);
     drawbevel_fresh(&shim->session, 1, 1, 0);
     drawbevel_login_fresh(&shim->login);
+}
+
+/* A record made in memory full of a byte. */
+static struct drawbevel_task made(int byte)
+{
+    struct drawbevel_task task;
+    memset(&task, byte, sizeof task);
+    drawbevel_task_make(&task, 1, 2, 3, 4, 5, 6);
+    return task;
 }
 
 EXPORT struct shim *shim_make(void)
@@ -190,13 +251,15 @@ EXPORT void shim_keys(uint64_t answer[12])
         answer[i] = KEYS[i];
 }
 
-/* Whether every member of a session and of a login is the same at their beginning, whatever its memory held before. */
+/* Whether every member of a session, of a login and of a record is the same at their beginning, whatever its memory held before. */
 EXPORT uint32_t shim_begins_whole(void)
 {
     struct shim a, b;
+    struct drawbevel_task s = made(0x5a), t = made(0xa5);
     begin(&a, 0x5a);
     begin(&b, 0xa5);
-    return memcmp(a.session.maps, b.session.maps, sizeof a.session.maps) == 0
+    return memcmp(&s, &t, sizeof s) == 0
+        && memcmp(a.session.maps, b.session.maps, sizeof a.session.maps) == 0
         && memcmp(a.session.numbers, b.session.numbers, sizeof a.session.numbers) == 0
         && memcmp(a.session.tickets, b.session.tickets, sizeof a.session.tickets) == 0
         && memcmp(a.session.status_tickets, b.session.status_tickets, sizeof a.session.status_tickets) == 0
@@ -277,6 +340,13 @@ EXPORT uint32_t shim_read(const uint8_t *input, size_t length, uint64_t answer[1
         answer[15] = pdu.request.login.tsih;
         answer[16] = pdu.request.login.cid;
         break;
+    case DRAWBEVEL_DATA_OUT:
+        answer[0] = 0x05;
+        answer[8] = pdu.request.data_out.is_final;
+        answer[9] = pdu.request.data_out.target_transfer_tag;
+        answer[10] = pdu.request.data_out.data_sn;
+        answer[11] = pdu.request.data_out.buffer_offset;
+        break;
     case DRAWBEVEL_LOGOUT_REQUEST:
         answer[0] = 0x06;
         answer[8] = pdu.request.logout.reason;
@@ -341,12 +411,13 @@ EXPORT uint32_t shim_open(struct shim *shim, uint32_t connection, uint32_t stat_
     return number(drawbevel_open(&shim->session, connection, stat_sn));
 }
 
-EXPORT uint32_t shim_send(struct shim *shim, uint32_t connection, uint32_t ticket, uint64_t opcode, const uint64_t fields[9], uint8_t *out,
-                          size_t lent, uint64_t answer[1])
+EXPORT uint32_t shim_send(struct shim *shim, const struct words *words, uint32_t connection, uint32_t ticket, uint64_t opcode,
+                          const uint64_t fields[9], uint8_t *out, size_t lent, uint64_t answer[1])
 {
     struct drawbevel_response response = response_of(opcode, fields);
+    struct drawbevel_task task = task_of(words);
     uint32_t stat_sn = (uint32_t)FILL;
-    uint32_t said = number(drawbevel_send(&shim->session, connection, ticket, &response, out, lent, &stat_sn));
+    uint32_t said = number(drawbevel_send(&shim->session, &task, connection, ticket, &response, out, lent, &stat_sn));
     answer[0] = stat_sn;
     return said;
 }
@@ -368,10 +439,12 @@ EXPORT uint32_t shim_snack(const struct shim *shim, uint32_t connection, const u
     return said;
 }
 
-EXPORT uint32_t shim_resend(const struct shim *shim, uint32_t connection, uint32_t stat_sn, uint8_t *out, size_t lent, uint64_t answer[1])
+EXPORT uint32_t shim_resend(const struct shim *shim, const struct words *words, uint32_t connection, uint32_t stat_sn, uint8_t *out, size_t lent,
+                            uint64_t answer[1])
 {
+    struct drawbevel_task task = task_of(words);
     uint32_t ticket = (uint32_t)FILL;
-    uint32_t said = number(drawbevel_resend(&shim->session, connection, stat_sn, out, lent, &ticket));
+    uint32_t said = number(drawbevel_resend(&shim->session, &task, connection, stat_sn, out, lent, &ticket));
     answer[0] = ticket;
     return said;
 }
@@ -401,6 +474,55 @@ EXPORT uint32_t shim_holder(const struct shim *shim, uint32_t cmd_sn, uint64_t a
     answer[0] = held.ticket;
     answer[1] = origin_of(held.origin);
     return said;
+}
+
+/* ---- a task's record */
+
+EXPORT uint32_t shim_task(struct words *words, uint32_t itt, uint64_t lun, uint32_t tag, uint32_t came, uint32_t max_burst, uint16_t max_r2t)
+{
+    struct drawbevel_task task = task_of(words);
+    uint32_t said = number(drawbevel_task_make(&task, itt, lun, tag, came, max_burst, max_r2t));
+    return words_after(said, &task, words);
+}
+
+EXPORT uint32_t shim_data_in(const struct shim *shim, struct words *words, uint32_t connection, uint8_t f, uint8_t a, uint32_t length, uint8_t *out,
+                             size_t lent)
+{
+    struct drawbevel_task task = task_of(words);
+    uint32_t said = number(drawbevel_task_data_in(&shim->session, &task, connection, f, a, length, out, lent));
+    return words_after(said, &task, words);
+}
+
+EXPORT uint32_t shim_r2t(const struct shim *shim, struct words *words, uint32_t connection, uint32_t tag, uint32_t length, uint8_t *out, size_t lent)
+{
+    struct drawbevel_task task = task_of(words);
+    uint32_t said = number(drawbevel_task_r2t(&shim->session, &task, connection, tag, length, out, lent));
+    return words_after(said, &task, words);
+}
+
+EXPORT uint32_t shim_data_out(const struct shim *shim, struct words *words, uint32_t connection, const uint8_t *pdu, size_t length,
+                              uint64_t answer[3])
+{
+    struct drawbevel_task task = task_of(words);
+    struct drawbevel_came came;
+    uint32_t said;
+    memset(&came, FILL, sizeof came);
+    said = number(drawbevel_task_data_out(&shim->session, &task, connection, pdu, length, &came));
+    answer[0] = came.offset;
+    answer[1] = came.count;
+    answer[2] = came.open;
+    return words_after(said, &task, words);
+}
+
+EXPORT uint32_t shim_data_snack(const struct shim *shim, struct words *words, uint32_t connection, uint32_t offset, const uint8_t *pdu,
+                                size_t length, uint64_t answer[2])
+{
+    struct drawbevel_task task = task_of(words);
+    uint32_t first = (uint32_t)FILL, count = (uint32_t)FILL;
+    uint32_t said = number(drawbevel_task_snack(&shim->session, &task, connection, offset, pdu, length, &first, &count));
+    answer[0] = first;
+    answer[1] = count;
+    return words_after(said, &task, words);
 }
 
 /* ---- a login */

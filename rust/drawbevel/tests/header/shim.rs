@@ -1,10 +1,11 @@
 //! The shim (`shim.c`) as an engine: compiled into a shared object with the `drawbevel.h` of a folder, loaded, and called.
 #![allow(unsafe_code)]
 
+use crate::record::Words;
 use calls::{
-    Data, Engine, Holder, Login, LoginAnswer, Logout, LogoutCounts, NopOut, Numbers, Offer, Out,
-    Parameters, Pdu, Refusal, Request, Response, Run, ScsiCommand, Snack, Take, TaskManagement,
-    Window,
+    Came, Data, DataInPdu, DataOut, DataSnack, Engine, Holder, Login, LoginAnswer, Logout,
+    LogoutCounts, NopOut, Numbers, Offer, Out, Parameters, Pdu, Refusal, Request, Response, Run,
+    ScsiCommand, Snack, Take, Task, TaskGiven, TaskManagement, Window,
 };
 use std::ffi::{CStr, CString, c_char, c_int, c_void};
 use std::path::Path;
@@ -62,13 +63,18 @@ functions! {
     take(*mut State, *mut u8, usize, *mut [u64; 3]) -> u32;
     logout(*mut State, u32, u8, *mut [u64; 2]) -> u32;
     open(*mut State, u32, u32) -> u32;
-    send(*mut State, u32, u32, u64, *const [u64; 9], *mut u8, usize, *mut [u64; 1]) -> u32;
+    send(*mut State, *const Words, u32, u32, u64, *const [u64; 9], *mut u8, usize, *mut [u64; 1]) -> u32;
     acknowledge(*mut State, u32, u32, *mut [u64; 1]) -> u32;
     snack(*const State, u32, *const u8, usize, *mut [u64; 2]) -> u32;
-    resend(*const State, u32, u32, *mut u8, usize, *mut [u64; 1]) -> u32;
+    resend(*const State, *const Words, u32, u32, *mut u8, usize, *mut [u64; 1]) -> u32;
     window(*const State, *mut [u64; 2]);
     next_stat_sn(*const State, u32, *mut [u64; 1]) -> u32;
     holder(*const State, u32, *mut [u64; 2]) -> u32;
+    task(*mut Words, u32, u64, u32, u32, u32, u16) -> u32;
+    data_in(*const State, *mut Words, u32, bool, bool, u32, *mut u8, usize) -> u32;
+    r2t(*const State, *mut Words, u32, u32, u32, *mut u8, usize) -> u32;
+    data_out(*const State, *mut Words, u32, *const u8, usize, *mut [u64; 3]) -> u32;
+    data_snack(*const State, *mut Words, u32, u32, *const u8, usize, *mut [u64; 2]) -> u32;
     login_fresh(*mut State);
     login(
         *mut State, *const u8, usize, u16, u16, *const u8, usize, *mut u8, usize, *mut u8, usize, *mut [u64; 7]
@@ -216,6 +222,7 @@ fn fields_of(response: &Response) -> (u64, [u64; 9]) {
             itt,
             snack_tag,
             residual,
+            exp_data_sn,
         } => (
             0x21,
             &[
@@ -227,6 +234,7 @@ fn fields_of(response: &Response) -> (u64, [u64; 9]) {
                 itt.into(),
                 snack_tag.into(),
                 residual.into(),
+                exp_data_sn.into(),
             ],
         ),
         Response::TaskManagement { response, itt } => (0x22, &[response.into(), itt.into()]),
@@ -254,6 +262,28 @@ fn fields_of(response: &Response) -> (u64, [u64; 9]) {
                 status_detail.into(),
             ],
         ),
+        Response::DataIn {
+            final_bit,
+            acknowledge,
+            data_segment_length,
+            lun,
+            itt,
+            ttt,
+            data_sn,
+            buffer_offset,
+        } => (
+            0x25,
+            &[
+                final_bit.into(),
+                acknowledge.into(),
+                data_segment_length.into(),
+                lun,
+                itt.into(),
+                ttt.into(),
+                data_sn.into(),
+                buffer_offset.into(),
+            ],
+        ),
         Response::Logout {
             response,
             itt,
@@ -266,6 +296,24 @@ fn fields_of(response: &Response) -> (u64, [u64; 9]) {
                 itt.into(),
                 time2wait.into(),
                 time2retain.into(),
+            ],
+        ),
+        Response::R2t {
+            lun,
+            itt,
+            ttt,
+            r2t_sn,
+            buffer_offset,
+            desired_data_transfer_length,
+        } => (
+            0x31,
+            &[
+                lun,
+                itt.into(),
+                ttt.into(),
+                r2t_sn.into(),
+                buffer_offset.into(),
+                desired_data_transfer_length.into(),
             ],
         ),
         Response::Reject { reason } => (0x3f, &[reason.into()]),
@@ -320,6 +368,12 @@ fn pdu_of(w: &[u64; 17]) -> Pdu {
             isid: w[14],
             tsih: fit(w[15]),
             cid: fit(w[16]),
+        }),
+        0x05 => Request::DataOut(DataOut {
+            final_bit: flag(w[8]),
+            ttt: fit(w[9]),
+            data_sn: fit(w[10]),
+            buffer_offset: fit(w[11]),
         }),
         0x06 => Request::Logout(Logout {
             reason: fit(w[8]),
@@ -405,6 +459,7 @@ impl Shim<'_> {
         &mut self,
         connection: u32,
         ticket: u32,
+        task: &Task,
         out: &mut [u8],
         opcode: u64,
         fields: &[u64; 9],
@@ -414,6 +469,7 @@ impl Shim<'_> {
         let number = unsafe {
             (self.f.send)(
                 self.state,
+                &Words::of(task),
                 connection,
                 ticket,
                 opcode,
@@ -481,11 +537,12 @@ impl Engine for Shim<'_> {
         &mut self,
         connection: u32,
         ticket: u32,
+        task: &Task,
         out: &mut [u8],
         response: &Response,
     ) -> Result<u32, Refusal> {
         let (opcode, fields) = fields_of(response);
-        self.send_fields(connection, ticket, out, opcode, &fields)
+        self.send_fields(connection, ticket, task, out, opcode, &fields)
     }
 
     fn acknowledge(&mut self, connection: u32, exp_stat_sn: u32) -> Result<u32, Refusal> {
@@ -506,11 +563,19 @@ impl Engine for Shim<'_> {
         })
     }
 
-    fn resend(&mut self, connection: u32, stat_sn: u32, out: &mut [u8]) -> Result<u32, Refusal> {
+    fn resend(
+        &mut self,
+        connection: u32,
+        stat_sn: u32,
+        task: &Task,
+        out: &mut [u8],
+    ) -> Result<u32, Refusal> {
+        let (state, words) = (self.state, Words::of(task));
         let mut answer = [0];
         let (start, lent) = (out.as_mut_ptr(), out.len());
-        let number =
-            unsafe { (self.f.resend)(self.state, connection, stat_sn, start, lent, &mut answer) };
+        let number = unsafe {
+            (self.f.resend)(state, &words, connection, stat_sn, start, lent, &mut answer)
+        };
         only(DONE, number, answer).map(|[ticket]| fit(ticket))
     }
 
@@ -541,6 +606,86 @@ impl Engine for Shim<'_> {
             },
             other => panic!("a question for a holder answers {other:?}"),
         }
+    }
+
+    fn task(&self, given: TaskGiven) -> Result<Task, Refusal> {
+        let TaskGiven {
+            itt,
+            lun,
+            tag,
+            came,
+            max_burst,
+            max_r2t,
+        } = given;
+        let mut words = Words::FILLED;
+        let number = unsafe { (self.f.task)(&mut words, itt, lun, tag, came, max_burst, max_r2t) };
+        only(DONE, number, []).map(|_| words.record())
+    }
+
+    fn data_in(
+        &mut self,
+        connection: u32,
+        task: &mut Task,
+        out: &mut [u8],
+        pdu: DataInPdu,
+    ) -> Result<(), Refusal> {
+        let (start, lent) = (out.as_mut_ptr(), out.len());
+        let (f, a, length) = (pdu.final_bit, pdu.acknowledge, pdu.data_segment_length);
+        let number = Words::lend(task, |words| unsafe {
+            (self.f.data_in)(self.state, words, connection, f, a, length, start, lent)
+        });
+        only(DONE, number, []).map(|_| ())
+    }
+
+    fn r2t(
+        &mut self,
+        connection: u32,
+        task: &mut Task,
+        out: &mut [u8],
+        tag: u32,
+        length: u32,
+    ) -> Result<(), Refusal> {
+        let (start, lent) = (out.as_mut_ptr(), out.len());
+        let number = Words::lend(task, |words| unsafe {
+            (self.f.r2t)(self.state, words, connection, tag, length, start, lent)
+        });
+        only(DONE, number, []).map(|_| ())
+    }
+
+    fn data_out(&mut self, connection: u32, task: &mut Task, pdu: &[u8]) -> Result<Came, Refusal> {
+        let mut answer = [0; 3];
+        let (start, length) = (pdu.as_ptr(), pdu.len());
+        let number = Words::lend(task, |words| unsafe {
+            (self.f.data_out)(self.state, words, connection, start, length, &mut answer)
+        });
+        let [offset, count, open] = only(DONE, number, answer)?;
+        Ok(Came {
+            offset: fit(offset),
+            count: fit(count),
+            open: fit(open),
+        })
+    }
+
+    fn data_snack(
+        &mut self,
+        connection: u32,
+        task: &mut Task,
+        offset: u32,
+        pdu: &[u8],
+    ) -> Result<DataSnack, Refusal> {
+        let (state, mut answer) = (self.state, [0; 2]);
+        let (start, length) = (pdu.as_ptr(), pdu.len());
+        let number = Words::lend(task, |words| unsafe {
+            (self.f.data_snack)(state, words, connection, offset, start, length, &mut answer)
+        });
+        Ok(match (answered(number, answer)?, answer) {
+            (43, [first, count]) => DataSnack::Run(Run {
+                first: fit(first),
+                count: fit(count),
+            }),
+            (44, [0, count]) => DataSnack::Acknowledged(fit(count)),
+            other => panic!("a SNACK for data answers {other:?}"),
+        })
     }
 
     fn length(&self, header: &[u8]) -> Result<u32, Refusal> {

@@ -1,7 +1,9 @@
 //! Mistakes at the boundary, put before the core to show that the run finds each.
 
-use crate::kinds::{Width, kind_of};
-use crate::raw::{Lent, ResponseWords, Session};
+use crate::expected::breaches;
+use crate::kinds::{SCSI, TASK_MANAGEMENT, Width, kind_of};
+use crate::raw::{Lent, ResponseWords, Session, Task};
+use crate::stand::record_of;
 
 /// What is wrong.
 #[derive(Clone, Copy, Debug, PartialEq, Eq)]
@@ -28,11 +30,19 @@ pub enum Fault {
     ByteAfterHeader,
     /// A NOP-In without a tag uses up its number.
     PingStored,
+    /// A Data-In or an R2T is sent as if it were a status.
+    DataSent,
+    /// A SCSI Response's tags aren't compared with the record's.
+    TagsUnseen,
+    /// A SCSI Response is sent with the ExpDataSN that it states.
+    OwnExpDataSn,
+    /// The record's word for "any Data-In sent" counts by its lowest bit.
+    AnyDataInCut,
 }
 
 impl Fault {
     /// Every fault.
-    pub const ALL: [Fault; 14] = [
+    pub const ALL: [Fault; 18] = [
         Fault::NoKindFirst,
         Fault::OpcodeCut,
         Fault::Cut(1),
@@ -47,6 +57,10 @@ impl Fault {
         Fault::ByteChanges,
         Fault::ByteAfterHeader,
         Fault::PingStored,
+        Fault::DataSent,
+        Fault::TagsUnseen,
+        Fault::OwnExpDataSn,
+        Fault::AnyDataInCut,
     ];
 
     /// The words that the core is shown.
@@ -75,9 +89,21 @@ impl Fault {
         s: &mut Session,
         connection: u32,
         ticket: u32,
+        task: &Task,
         words: &ResponseWords,
         out: &mut Lent,
     ) -> u64 {
+        let mut task = *task;
+        let of_words = record_of(words);
+        match self {
+            Fault::TagsUnseen if words[0] == SCSI.opcode => {
+                for place in [0, 7] {
+                    task.numbers[place] = of_words.numbers[place];
+                }
+            }
+            Fault::AnyDataInCut => task.numbers[6] &= 1,
+            _ => {}
+        }
         let mut shown = self.shown(words);
         if self == Fault::NoKindFirst && kind_of(words).is_none() {
             return 3;
@@ -85,18 +111,26 @@ impl Fault {
         if self == Fault::PingStored && super::is_ping(words) {
             shown[3] = 1;
         }
-        let answer = s.send(connection, ticket, &shown, out);
+        let is_data = kind_of(words).is_some_and(|kind| !kind.is_status());
+        if self == Fault::DataSent && is_data && breaches(words).is_empty() {
+            shown = TASK_MANAGEMENT.good;
+        }
+        let answer = s.send(connection, ticket, &task, &shown, out);
         match (self, answer as u32) {
             (Fault::FullFirst, 3 | 5) => {
                 let plain = [0x3f, 1, 0, 0, 0, 0, 0, 0, 0, 0];
                 let after = s
                     .clone()
-                    .send(connection, ticket, &plain, &mut Lent::new(48));
+                    .send(connection, ticket, &task, &plain, &mut Lent::new(48));
                 return if after == 10 { after } else { answer };
             }
             (Fault::NumberChanges, 1..=12) => s.numbers[14] ^= 1,
             (Fault::ByteChanges, 1..=12) => out.bytes[out.lent / 2] ^= 1,
             (Fault::ByteAfterHeader, 32) => out.bytes[48] ^= 1,
+            (Fault::OwnExpDataSn, 32) if words[0] == SCSI.opcode => {
+                let own = words[SCSI.place("ExpDataSN")] as u32;
+                out.bytes[36..40].copy_from_slice(&own.to_be_bytes());
+            }
             _ => {}
         }
         answer

@@ -1,7 +1,8 @@
 //! Words, connections and buffers, mostly at and around the boundaries.
 
 use crate::kinds::{KINDS, Kind, NO_KIND, Width};
-use crate::raw::ResponseWords;
+use crate::raw::{ResponseWords, Task};
+use crate::stand::record_of;
 use testkit::Rng;
 
 pub fn connection(rng: &mut Rng) -> u32 {
@@ -85,4 +86,19 @@ pub fn words(rng: &mut Rng) -> ResponseWords {
         }
     }
     words
+}
+
+/// A record: mostly with the tags of a SCSI Response of these words; other numbers are anything.
+pub fn task(rng: &mut Rng, words: &ResponseWords) -> Task {
+    let mut task = record_of(words);
+    task.numbers[4] = rng.u32();
+    task.numbers[6] = rng.pick(&[0, 1, 1, 2, 0x100, 1 << 31]);
+    if rng.one_in(8) {
+        task.numbers[rng.pick(&[0, 7])] ^= 1 << rng.below(32);
+    }
+    for place in [1, 2, 3, 5, 8, 9, 10, 11] {
+        task.numbers[place] = rng.number() as u32;
+    }
+    task.wide.fill_with(|| rng.number());
+    task
 }

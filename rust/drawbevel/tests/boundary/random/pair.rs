@@ -3,7 +3,7 @@
 use super::fault::Fault;
 use crate::expected::{self, Book};
 use crate::kinds::{NOP_IN, TASK_MANAGEMENT};
-use crate::raw::{self, Lent, ResponseWords, Session};
+use crate::raw::{self, Lent, ResponseWords, Session, Task};
 use calls::{Engine, Offer, Refusal, Response, Take};
 use std::fmt::Debug;
 use testkit::{Rng, pdu};
@@ -61,14 +61,19 @@ impl Pair {
         &mut self,
         connection: u32,
         ticket: u32,
+        task: &Task,
         words: &ResponseWords,
         lent: usize,
     ) -> Checked<u64> {
         let (mut out, mut wanted) = (Lent::new(lent), Lent::new(lent));
         let (before, given, s) = (self.session.clone(), *words, &mut self.session);
-        let answer = self.fault.send(s, connection, ticket, words, &mut out);
-        let expected = self.book.send(connection, ticket, words, wanted.part());
-        let call = format!("send of {words:x?} on {connection}, {lent} bytes lent");
+        let answer = self
+            .fault
+            .send(s, connection, ticket, task, words, &mut out);
+        let expected = self
+            .book
+            .send(connection, ticket, task, words, wanted.part());
+        let call = format!("send of {words:x?} on {connection}, {lent} bytes lent, {task:x?}");
         same(&format!("{call}: answer"), answer, packed(expected))?;
         same(&format!("{call}: bytes"), out.bytes, wanted.bytes.clone())?;
         same(&format!("{call}: words"), *words, given)?;
@@ -105,12 +110,13 @@ impl Pair {
     /// Whether 32 statuses are held.
     pub fn is_full(&self, connection: u32) -> bool {
         let (mut model, plain) = (self.book.model.clone(), Response::Reject { reason: 1 });
-        model.send(connection, 0, &mut [0; 48], &plain) == Err(Refusal::Full)
+        let task = calls::Task::fresh_for(0);
+        model.send(connection, 0, &task, &mut [0; 48], &plain) == Err(Refusal::Full)
     }
 
     fn fill(&mut self, connection: u32) -> Checked<()> {
         for ticket in 0..33 {
-            self.send(connection, ticket, &TASK_MANAGEMENT.good, 48)?;
+            self.send(connection, ticket, &Task::ZERO, &TASK_MANAGEMENT.good, 48)?;
         }
         Ok(())
     }
@@ -170,14 +176,19 @@ impl Pair {
 
     /// Every status that may be held is held on both sides or on none, with its header and ticket.
     pub fn same_ledgers(&mut self, sends: u32) -> Checked<()> {
+        let mut later = Task::ZERO;
+        later.numbers = [0x51, 0, 0, 0, 0x54, 0x55, 2, 0x57, 0, 0, 0, 0];
         for connection in 0..4 {
             for n in 0..sends {
                 let stat_sn = self.first[connection as usize].wrapping_add(n);
-                let (mut out, mut wanted) = (Lent::new(64), Lent::new(64));
-                let expected = self.book.model.resend(connection, stat_sn, wanted.part());
-                let answer = self.session.resend(connection, stat_sn, &mut out);
-                same("resend", answer, packed(expected))?;
-                same("resend", out, wanted)?;
+                for task in [&Task::ZERO, &later] {
+                    let (mut out, mut wanted) = (Lent::new(64), Lent::new(64));
+                    let (book, record) = (&mut self.book.model, expected::record(task));
+                    let expected = book.resend(connection, stat_sn, &record, wanted.part());
+                    let answer = self.session.resend(connection, stat_sn, task, &mut out);
+                    same("resend", answer, packed(expected))?;
+                    same("resend", out, wanted)?;
+                }
             }
         }
         Ok(())
