@@ -28,7 +28,13 @@ fn text(name: &str, kind: &str) -> String {
 #[test]
 fn each_example_is_answered_as_expected() {
     let names = names();
-    for needed in ["lost-segment", "who-holds", "session-life", "refusals"] {
+    for needed in [
+        "lost-segment",
+        "who-holds",
+        "session-life",
+        "refusals",
+        "write-and-read",
+    ] {
         assert!(
             names.iter().any(|name| name == needed),
             "{needed} is missing"
@@ -130,4 +136,44 @@ fn the_holder_named_is_the_worker_whose_copy_is_handed_out() {
         2,
         "both workers hold it in one case or another"
     );
+}
+
+/// The number of eight hex digits.
+fn hex_number(text: &str) -> u32 {
+    u32::from_str_radix(text, 16).unwrap()
+}
+
+/// In the write each byte after the immediate data comes once, in order; in the read each is sent once, but for those that
+/// a type 3 SNACK had sent anew.
+#[test]
+fn the_write_and_the_read_are_whole() {
+    let expected = text("write-and-read", "expected");
+    let (write, read) = expected.split_once("# The read: ").unwrap();
+    let mut came = 8192;
+    for line in write
+        .lines()
+        .filter_map(|line| line.strip_prefix("came 0x"))
+    {
+        assert_eq!(hex_number(&line[..8]), came);
+        came += line[9..].split(' ').next().unwrap().parse::<u32>().unwrap();
+    }
+    assert_eq!(came, 24 * 1024);
+    let (before, after) = read.split_once("run 0x00000004 2\n").unwrap();
+    for (part, start, end) in [(before, 0, 48 * 1024), (after, 32 * 1024, 64 * 1024)] {
+        let mut next = start;
+        let headers = part
+            .lines()
+            .filter_map(|line| line.strip_prefix("data-in "));
+        for (data_sn, header) in (u32::from(start > 0) * 4..).zip(headers) {
+            let numbers = (hex_number(&header[72..80]), hex_number(&header[80..88]));
+            assert_eq!(numbers, (data_sn, next));
+            next += hex_number(&header[8..16]);
+        }
+        assert_eq!(next, end);
+    }
+    // ExpDataSN of each SCSI Response: no Data-In for the write, twelve for the read.
+    for (part, count) in [(write, 0), (read, 12)] {
+        let sent = part.lines().find(|line| line.starts_with("sent ")).unwrap();
+        assert_eq!(hex_number(&sent[16 + 72..16 + 80]), count);
+    }
 }

@@ -1,11 +1,12 @@
 //! The calls of a script and their answers, as data.
 
 use calls::{
-    HEADER_BYTES, Holder, LoginAnswer, LogoutCounts, Numbers, Offer, Out, Parameters, Pdu, Refusal,
-    Response, Run, Window,
+    Came, DataInPdu, HEADER_BYTES, Holder, LoginAnswer, LogoutCounts, Numbers, Offer, Out,
+    Parameters, Pdu, Refusal, Response, Run, Task, TaskGiven, Window,
 };
 
-/// A call. `lent` is the length of the output that it lends.
+/// A call. `lent` is the length of the output that it lends, `task` the number of the task's record, below
+/// [`TASKS`](crate::TASKS); where a send or a resend has none, it goes with a fresh record.
 #[derive(Clone, Debug, PartialEq, Eq)]
 pub enum Call {
     /// `session`
@@ -53,7 +54,9 @@ pub enum Call {
         ticket: u32,
         /// Length lent.
         lent: usize,
-        /// The response.
+        /// Number of the record.
+        task: Option<u8>,
+        /// The response. A script's is a status, and its ExpDataSN is 0.
         response: Response,
     },
     /// `ack`
@@ -78,6 +81,8 @@ pub enum Call {
         stat_sn: u32,
         /// Length lent.
         lent: usize,
+        /// Number of the record.
+        task: Option<u8>,
     },
     /// `window`
     Window,
@@ -90,6 +95,69 @@ pub enum Call {
     Holder {
         /// Command number.
         number: u32,
+    },
+    /// `task`
+    Task {
+        /// Number of the record.
+        task: u8,
+        /// What the record is made from.
+        given: TaskGiven,
+    },
+    /// `data-in`
+    DataIn {
+        /// Connection number.
+        connection: u32,
+        /// Number of the record.
+        task: u8,
+        /// Length lent.
+        lent: usize,
+        /// F, A and the data length.
+        pdu: DataInPdu,
+    },
+    /// `r2t`
+    R2t {
+        /// Connection number.
+        connection: u32,
+        /// Number of the record.
+        task: u8,
+        /// Length lent.
+        lent: usize,
+        /// Target Transfer Tag.
+        tag: u32,
+        /// Desired Data Transfer Length.
+        length: u32,
+    },
+    /// `data-out`
+    DataOut {
+        /// Connection number.
+        connection: u32,
+        /// Number of the record.
+        task: u8,
+        /// The PDU.
+        pdu: Vec<u8>,
+    },
+    /// `data-snack`
+    DataSnack {
+        /// Connection number.
+        connection: u32,
+        /// Number of the record.
+        task: u8,
+        /// Where Data-In goes on after a type 3.
+        offset: u32,
+        /// The PDU.
+        pdu: Vec<u8>,
+    },
+    /// `record`, which shows a record.
+    Record {
+        /// Number of the record.
+        task: u8,
+    },
+    /// `record` with a record's words, which sets it.
+    SetRecord {
+        /// Number of the record.
+        task: u8,
+        /// The record.
+        record: Task,
     },
     /// `length`
     Length {
@@ -132,6 +200,23 @@ pub enum Call {
     Params,
 }
 
+impl Call {
+    /// The number of the record that the call is given, or sets or shows.
+    pub fn task(&self) -> Option<u8> {
+        match self {
+            Call::Task { task, .. }
+            | Call::DataIn { task, .. }
+            | Call::R2t { task, .. }
+            | Call::DataOut { task, .. }
+            | Call::DataSnack { task, .. }
+            | Call::Record { task }
+            | Call::SetRecord { task, .. } => Some(*task),
+            Call::Send { task, .. } | Call::Resend { task, .. } => *task,
+            _ => None,
+        }
+    }
+}
+
 /// An answer, with the bytes that it shows.
 #[derive(Clone, Debug, PartialEq, Eq)]
 pub enum Answer {
@@ -151,9 +236,9 @@ pub enum Answer {
     Opened,
     /// To a send: StatSN and header.
     Sent(u32, [u8; HEADER_BYTES]),
-    /// To an acknowledgement: the count released.
+    /// To an acknowledgement: the count released; to a data SNACK of type 2: the count newly acknowledged.
     Acknowledged(u32),
-    /// To a SNACK.
+    /// To a SNACK, of statuses or of data.
     Run(Run),
     /// To a resend: ticket and header.
     Resent(u32, [u8; HEADER_BYTES]),
@@ -163,6 +248,18 @@ pub enum Answer {
     Next(u32),
     /// Who holds a number.
     Holder(Holder),
+    /// A task's record is made.
+    Task,
+    /// To a Data-In: its header.
+    DataIn([u8; HEADER_BYTES]),
+    /// To an R2T: its header.
+    R2t([u8; HEADER_BYTES]),
+    /// To a Data-Out.
+    Came(Came),
+    /// A task's record.
+    Record(Task),
+    /// A task's record is set.
+    RecordSet,
     /// The whole length of a PDU.
     Length(u32),
     /// A PDU read.

@@ -1,12 +1,17 @@
 //! A line as a call.
 
+mod response;
+mod words;
+
 use crate::call::Call;
-use crate::word::{bytes, number_in, words_of};
-use calls::{Numbers, Response};
+use crate::record;
+use calls::{DataInPdu, TaskGiven};
+
+pub use words::Words;
 
 /// The call of a line; none where it is a bad line.
 pub fn parse(line: &[u8]) -> Option<Call> {
-    let mut words = Words(words_of(line)?.into_iter());
+    let mut words = Words::of(line)?;
     let call = match words.word()? {
         b"session" => Call::Session {
             first: words.u32()?,
@@ -33,7 +38,8 @@ pub fn parse(line: &[u8]) -> Option<Call> {
             connection: words.u32()?,
             ticket: words.u32()?,
             lent: words.lent()?,
-            response: words.response()?,
+            task: words.with_task()?,
+            response: words.status()?,
         },
         b"ack" => Call::Acknowledge {
             connection: words.u32()?,
@@ -47,6 +53,7 @@ pub fn parse(line: &[u8]) -> Option<Call> {
             connection: words.u32()?,
             stat_sn: words.u32()?,
             lent: words.lent()?,
+            task: words.with_task()?,
         },
         b"window" => Call::Window,
         b"next" => Call::Next {
@@ -55,6 +62,55 @@ pub fn parse(line: &[u8]) -> Option<Call> {
         b"holder" => Call::Holder {
             number: words.u32()?,
         },
+        b"task" => Call::Task {
+            task: words.task()?,
+            given: TaskGiven {
+                itt: words.u32()?,
+                lun: words.u64()?,
+                tag: words.u32()?,
+                came: words.u32()?,
+                max_burst: words.u32()?,
+                max_r2t: words.u16()?,
+            },
+        },
+        b"data-in" => Call::DataIn {
+            connection: words.u32()?,
+            task: words.task()?,
+            lent: words.lent()?,
+            pdu: DataInPdu {
+                final_bit: words.bit()?,
+                acknowledge: words.bit()?,
+                data_segment_length: words.u32()?,
+            },
+        },
+        b"r2t" => Call::R2t {
+            connection: words.u32()?,
+            task: words.task()?,
+            lent: words.lent()?,
+            tag: words.u32()?,
+            length: words.u32()?,
+        },
+        b"data-out" => Call::DataOut {
+            connection: words.u32()?,
+            task: words.task()?,
+            pdu: words.bytes()?,
+        },
+        b"data-snack" => Call::DataSnack {
+            connection: words.u32()?,
+            task: words.task()?,
+            offset: words.u32()?,
+            pdu: words.bytes()?,
+        },
+        b"record" => {
+            let task = words.task()?;
+            match words.are_over() {
+                true => Call::Record { task },
+                false => Call::SetRecord {
+                    task,
+                    record: record::read(&mut words)?,
+                },
+            }
+        }
         b"length" => Call::Length {
             header: words.bytes()?,
         },
@@ -80,103 +136,4 @@ pub fn parse(line: &[u8]) -> Option<Call> {
         _ => return None,
     };
     words.are_over().then_some(call)
-}
-
-/// The words of a line that are not yet read.
-struct Words<'a>(std::vec::IntoIter<&'a [u8]>);
-
-impl<'a> Words<'a> {
-    fn word(&mut self) -> Option<&'a [u8]> {
-        self.0.next()
-    }
-
-    fn are_over(&self) -> bool {
-        self.0.as_slice().is_empty()
-    }
-
-    fn number(&mut self, bits: u32) -> Option<u64> {
-        number_in(self.word()?, bits)
-    }
-
-    fn bit(&mut self) -> Option<bool> {
-        Some(self.number(1)? == 1)
-    }
-
-    fn u8(&mut self) -> Option<u8> {
-        Some(self.number(8)? as u8)
-    }
-
-    fn u16(&mut self) -> Option<u16> {
-        Some(self.number(16)? as u16)
-    }
-
-    fn u32(&mut self) -> Option<u32> {
-        Some(self.number(32)? as u32)
-    }
-
-    fn u64(&mut self) -> Option<u64> {
-        self.number(64)
-    }
-
-    /// LENT, 0 to 65,535.
-    fn lent(&mut self) -> Option<usize> {
-        Some(self.number(16)? as usize)
-    }
-
-    fn bytes(&mut self) -> Option<Vec<u8>> {
-        bytes(self.word()?)
-    }
-
-    fn numbers(&mut self) -> Option<Numbers> {
-        Some(Numbers {
-            stat_sn: self.u32()?,
-            exp_cmd_sn: self.u32()?,
-            max_cmd_sn: self.u32()?,
-        })
-    }
-
-    fn response(&mut self) -> Option<Response> {
-        let response = match self.word()? {
-            b"nop-in" => Response::NopIn {
-                data_segment_length: self.u32()?,
-                lun: self.u64()?,
-                itt: self.u32()?,
-                ttt: self.u32()?,
-            },
-            b"scsi-response" => Response::Scsi {
-                overflow: self.bit()?,
-                underflow: self.bit()?,
-                response: self.u8()?,
-                status: self.u8()?,
-                data_segment_length: self.u32()?,
-                itt: self.u32()?,
-                snack_tag: self.u32()?,
-                residual: self.u32()?,
-            },
-            b"task-response" => Response::TaskManagement {
-                response: self.u8()?,
-                itt: self.u32()?,
-            },
-            b"login-response" => Response::Login {
-                csg: self.u8()?,
-                transit: self.bit()?,
-                nsg: self.u8()?,
-                data_segment_length: self.u32()?,
-                isid: self.u64()?,
-                tsih: self.u16()?,
-                itt: self.u32()?,
-                status_class: self.u8()?,
-                status_detail: self.u8()?,
-            },
-            b"logout-response" => Response::Logout {
-                response: self.u8()?,
-                itt: self.u32()?,
-                time2wait: self.u16()?,
-                time2retain: self.u16()?,
-            },
-            b"reject" => Response::Reject { reason: self.u8()? },
-            _ => return None,
-        };
-        Some(response)
-    }
 }

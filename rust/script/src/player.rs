@@ -1,8 +1,9 @@
-//! Plays calls on an engine: lends the outputs, keeps the gather area, and sees whether a byte changed that must not.
+//! Plays calls on an engine: lends the outputs, keeps the gather area and the tasks' records, and sees whether a byte
+//! changed that must not.
 
-use crate::TARGET_NAME;
 use crate::call::{Answer, Call};
-use calls::{Engine, HEADER_BYTES, LoginAnswer, Refusal, Take};
+use crate::{TARGET_NAME, TASKS};
+use calls::{DataSnack, Engine, HEADER_BYTES, LoginAnswer, Refusal, Response, Take, Task};
 
 /// The byte that a lent output is filled with before each call.
 pub const FILL: u8 = 0xee;
@@ -10,9 +11,10 @@ pub const FILL: u8 = 0xee;
 /// script can't make the tool ask for more memory than this.
 const MOST_LENT: usize = 65_535;
 
-/// An engine with the areas that it is lent.
+/// An engine with the areas that it is lent and the records that it is given.
 pub struct Player<E> {
     engine: E,
+    tasks: Vec<Task>,
     gather: Vec<u8>,
     /// How many bytes of the gather area count as gathered, by the rules.
     gathered: usize,
@@ -51,12 +53,13 @@ impl Played {
 }
 
 impl<E: Engine> Player<E> {
-    /// Start with the session of `session 1 1 0` and the login to [`TARGET_NAME`].
+    /// Start with the session of `session 1 1 0`, the login to [`TARGET_NAME`], and fresh records.
     pub fn new(mut engine: E) -> Self {
         engine.begin_session(1, 1, 0);
         engine.begin_login(TARGET_NAME);
         Player {
             engine,
+            tasks: vec![Task::fresh_for(0); TASKS],
             gather: vec![FILL; MOST_LENT],
             gathered: 0,
         }
@@ -65,6 +68,11 @@ impl<E: Engine> Player<E> {
     /// The engine.
     pub fn engine(&self) -> &E {
         &self.engine
+    }
+
+    /// The tasks' records as the last calls left them.
+    pub fn tasks(&self) -> &[Task] {
+        &self.tasks
     }
 
     /// The gather area as the last call left it.
@@ -101,12 +109,17 @@ impl<E: Engine> Player<E> {
                 connection,
                 ticket,
                 lent,
+                task,
                 response,
-            } => header(
-                *lent,
-                |out| e.send(*connection, *ticket, out, response),
-                Answer::Sent,
-            ),
+            } => {
+                let record = task.map(|n| &self.tasks[usize::from(n)]);
+                let record = record.cloned().unwrap_or_else(|| fresh_for(response));
+                header(
+                    *lent,
+                    |out| e.send(*connection, *ticket, &record, out, response),
+                    Answer::Sent,
+                )
+            }
             Call::Acknowledge {
                 connection,
                 exp_stat_sn,
@@ -121,16 +134,28 @@ impl<E: Engine> Player<E> {
                 connection,
                 stat_sn,
                 lent,
-            } => header(
-                *lent,
-                |out| e.resend(*connection, *stat_sn, out),
-                Answer::Resent,
-            ),
+                task,
+            } => {
+                let fresh = Task::fresh_for(0);
+                let record = task.map_or(&fresh, |n| &self.tasks[usize::from(n)]);
+                header(
+                    *lent,
+                    |out| e.resend(*connection, *stat_sn, record, out),
+                    Answer::Resent,
+                )
+            }
             Call::Window => Played::plain(Ok(Answer::Window(e.window()))),
             Call::Next { connection } => {
                 Played::plain(e.next_stat_sn(*connection).map(Answer::Next))
             }
             Call::Holder { number } => Played::plain(Ok(Answer::Holder(e.holder(*number)))),
+            Call::Task { .. }
+            | Call::DataIn { .. }
+            | Call::R2t { .. }
+            | Call::DataOut { .. }
+            | Call::DataSnack { .. }
+            | Call::Record { .. }
+            | Call::SetRecord { .. } => self.data(call),
             Call::Length { header } => Played::plain(e.length(header).map(Answer::Length)),
             Call::Read { pdu } => Played::plain(e.read(pdu).map(Answer::Read)),
             Call::Write {
@@ -150,6 +175,60 @@ impl<E: Engine> Player<E> {
             }
             Call::Login { .. } => self.login(call),
             Call::Params => Played::plain(Ok(Answer::Params(e.parameters()))),
+        }
+    }
+
+    /// A call on a task's record.
+    fn data(&mut self, call: &Call) -> Played {
+        let e = &mut self.engine;
+        let n = call.task().expect("only for calls on a record");
+        let record = &mut self.tasks[usize::from(n)];
+        match call {
+            Call::Task { given, .. } => {
+                let made = e.task(*given).map(|task| *record = task);
+                Played::plain(made.map(|()| Answer::Task))
+            }
+            Call::DataIn {
+                connection,
+                lent,
+                pdu,
+                ..
+            } => header(
+                *lent,
+                |out| e.data_in(*connection, record, out, *pdu),
+                |(), header| Answer::DataIn(header),
+            ),
+            Call::R2t {
+                connection,
+                lent,
+                tag,
+                length,
+                ..
+            } => header(
+                *lent,
+                |out| e.r2t(*connection, record, out, *tag, *length),
+                |(), header| Answer::R2t(header),
+            ),
+            Call::DataOut {
+                connection, pdu, ..
+            } => Played::plain(e.data_out(*connection, record, pdu).map(Answer::Came)),
+            Call::DataSnack {
+                connection,
+                offset,
+                pdu,
+                ..
+            } => {
+                let said = e.data_snack(*connection, record, *offset, pdu);
+                Played::plain(said.map(|said| match said {
+                    DataSnack::Run(run) => Answer::Run(run),
+                    DataSnack::Acknowledged(count) => Answer::Acknowledged(count),
+                }))
+            }
+            Call::SetRecord { record: given, .. } => {
+                *record = given.clone();
+                Played::plain(Ok(Answer::RecordSet))
+            }
+            _ => Played::plain(Ok(Answer::Record(record.clone()))),
         }
     }
 
@@ -207,6 +286,15 @@ fn login_answer(answer: LoginAnswer, lent: Vec<u8>) -> Played {
     let length = answer.text_length.min(lent.len());
     let text = lent[..length].to_vec();
     Played::lent(Answer::Login(answer, text), lent, length)
+}
+
+/// The record that a response goes with where none is named: a fresh one, for a SCSI Response with its Initiator Task
+/// Tag.
+fn fresh_for(response: &Response) -> Task {
+    match response {
+        Response::Scsi { itt, .. } => Task::fresh_for(*itt),
+        _ => Task::fresh_for(0),
+    }
 }
 
 fn take<E: Engine>(engine: &mut E, lent: usize) -> Played {

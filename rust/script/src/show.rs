@@ -2,6 +2,7 @@
 //! offsets, single bits and codes of 8 bits or less are decimal.
 
 use crate::call::Answer;
+use crate::record;
 use calls::{Holder, LoginAnswer, Offer, Parameters, Pdu, Refusal, Request};
 use std::fmt::Write;
 
@@ -41,6 +42,17 @@ pub fn answer_line(answer: &Answer) -> String {
         ),
         Answer::Next(stat_sn) => format!("next {stat_sn:#010x}"),
         Answer::Holder(holder) => holder_line(*holder),
+        Answer::Task => "task".into(),
+        Answer::DataIn(header) => format!("data-in {}", hex(header)),
+        Answer::R2t(header) => format!("r2t {}", hex(header)),
+        Answer::Came(came) => {
+            format!(
+                "came {:#010x} {} open {}",
+                came.offset, came.count, came.open
+            )
+        }
+        Answer::Record(task) => format!("record {}", record::words(task)),
+        Answer::RecordSet => "record".into(),
         Answer::Length(length) => format!("length {length}"),
         Answer::Read(pdu) => pdu_line(pdu),
         Answer::Written(header) => format!("written {}", hex(header)),
@@ -121,6 +133,14 @@ fn pdu_line(pdu: &Pdu) -> String {
                 l.isid, l.tsih, l.cid
             );
             ("login", format!("{stages} {versions} {tags}"))
+        }
+        Request::DataOut(d) => {
+            let start = format!("f={} ttt={:#010x}", bit(d.final_bit), d.ttt);
+            let numbers = format!(
+                "datasn={:#010x} offset={:#010x}",
+                d.data_sn, d.buffer_offset
+            );
+            ("data-out", format!("{start} {numbers}"))
         }
         Request::Logout(l) => ("logout", format!("reason={} cid={:#06x}", l.reason, l.cid)),
         Request::Snack(s) => {
