@@ -2,8 +2,8 @@
 
 use crate::coverage::Coverage;
 use crate::generate::{Area, Generator};
-use calls::Engine;
-use script::{Played, Player, answer_line, call_line};
+use calls::{Engine, Task};
+use script::{Call, Played, Player, answer_line, call_line};
 use std::fmt;
 use testkit::Rng;
 
@@ -61,6 +61,7 @@ pub fn run<A: Engine, B: Engine>(
             let call = generator.call(&mut rng);
             script.extend(call_line(&call));
             script.push(b'\n');
+            let before = record_of(&call, &one).cloned();
             let answer = one.play(&call);
             let against = other.play(&call);
             if answer != against || one.gather() != other.gather() {
@@ -70,8 +71,12 @@ pub fn run<A: Engine, B: Engine>(
                     answers: [shown(&answer), shown(&against)],
                 }));
             }
-            generator.saw(&call, &answer.answer);
-            coverage.saw(&call, &answer);
+            if record_of(&call, &one) != record_of(&call, &other) {
+                return Err(Box::new(told_by_record(seed, script, &call, one, other)));
+            }
+            generator.saw(&call, &answer.answer, one.tasks());
+            let records = before.as_ref().zip(record_of(&call, &one));
+            coverage.saw(&call, &answer, records);
             played += 1;
         }
     }
@@ -79,6 +84,31 @@ pub fn run<A: Engine, B: Engine>(
         calls: played,
         coverage,
     })
+}
+
+/// The record that a call is given, as it stands now.
+fn record_of<'p, E: Engine>(call: &Call, player: &'p Player<E>) -> Option<&'p Task> {
+    call.task().map(|n| &player.tasks()[usize::from(n)])
+}
+
+/// The difference of two records after a call that was answered the same: a line more shows it.
+fn told_by_record<A: Engine, B: Engine>(
+    seed: u64,
+    mut script: Vec<u8>,
+    call: &Call,
+    mut one: Player<A>,
+    mut other: Player<B>,
+) -> Difference {
+    let task = call.task().expect("a call on a record");
+    let question = Call::Record { task };
+    script.extend(call_line(&question));
+    script.push(b'\n');
+    let answers = [one.play(&question), other.play(&question)];
+    Difference {
+        seed,
+        script,
+        answers: answers.each_ref().map(shown),
+    }
 }
 
 fn shown(played: &Played) -> String {

@@ -1,13 +1,17 @@
 //! What a run reached. A clean run counts only if everything in the list of what is required was seen.
 
+mod data_headers;
 mod length;
 mod login;
 mod required;
 mod session;
+mod snacks;
+mod statuses;
+mod tasks;
 
 pub use required::required;
 
-use calls::{Holder, Offer};
+use calls::{Holder, Offer, Task};
 use script::{Answer, Call, Played};
 use std::collections::BTreeMap;
 
@@ -23,8 +27,8 @@ pub struct Coverage {
 }
 
 impl Coverage {
-    /// Record a call and its answer.
-    pub fn saw(&mut self, call: &Call, played: &Played) {
+    /// Record a call and its answer, and of a call on a task the record before and after it.
+    pub fn saw(&mut self, call: &Call, played: &Played, records: Option<(&Task, &Task)>) {
         let answer = &played.answer;
         let mut marks = vec![format!("{}: {}", call_name(call), answer_name(answer))];
         if let Answer::Refused(refusal) = answer {
@@ -37,6 +41,18 @@ impl Coverage {
             marks.push(format!("{} {:#04x}", call_name(call), header[0]));
         }
         length::saw(call, answer, &mut marks);
+        data_headers::saw(call, answer, &mut marks);
+        if let Some((before, after)) = records {
+            tasks::saw(call, answer, before, after, &mut marks);
+            snacks::saw(
+                call,
+                answer,
+                (before, after),
+                self.session.level(),
+                &mut marks,
+            );
+            statuses::saw(call, answer, before, &self.session, &mut marks);
+        }
         self.session.saw(call, answer, &mut marks);
         self.login.saw(call, answer, &mut marks);
         for mark in marks {
@@ -84,6 +100,12 @@ fn call_name(call: &Call) -> &'static str {
         Call::Window => "window",
         Call::Next { .. } => "next",
         Call::Holder { .. } => "holder",
+        Call::Task { .. } => "task",
+        Call::DataIn { .. } => "data-in",
+        Call::R2t { .. } => "r2t",
+        Call::DataOut { .. } => "data-out",
+        Call::DataSnack { .. } => "data-snack",
+        Call::Record { .. } | Call::SetRecord { .. } => "record",
         Call::Length { .. } => "length",
         Call::Read { .. } => "read",
         Call::Write { .. } => "write",
@@ -91,6 +113,17 @@ fn call_name(call: &Call) -> &'static str {
         Call::Login { .. } => "login",
         Call::Params => "params",
     }
+}
+
+/// The texts that are so.
+fn those<const N: usize>(list: [(bool, &'static str); N]) -> Vec<&'static str> {
+    let so = list.into_iter().filter(|(is_so, _)| *is_so);
+    so.map(|(_, text)| text).collect()
+}
+
+/// The big-endian number of four bytes.
+fn number(bytes: &[u8], at: usize) -> u32 {
+    u32::from_be_bytes([bytes[at], bytes[at + 1], bytes[at + 2], bytes[at + 3]])
 }
 
 fn answer_name(answer: &Answer) -> String {
@@ -118,6 +151,12 @@ fn answer_name(answer: &Answer) -> String {
         Answer::Holder(Holder::Void) => "void",
         Answer::Holder(Holder::Held { origin: None, .. }) => "held, origin none",
         Answer::Holder(Holder::Held { .. }) => "held",
+        Answer::Task => "task",
+        Answer::DataIn(_) => "data-in",
+        Answer::R2t(_) => "r2t",
+        Answer::Came(_) => "came",
+        Answer::Record(_) => "record",
+        Answer::RecordSet => "set",
         Answer::Length(_) => "length",
         Answer::Read(pdu) => pdu.request.kind(),
         Answer::Written(_) => "written",

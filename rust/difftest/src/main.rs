@@ -9,7 +9,7 @@ fn main() {
         .skip(1)
         .map(|word| word.parse::<u64>().expect("a number"));
     let seed = arguments.next().unwrap_or(1);
-    let calls = arguments.next().unwrap_or(210_000) as usize;
+    let calls = arguments.next().unwrap_or(360_000) as usize;
     println!("seed {seed}");
     let report =
         run(Model::default(), Model::default(), seed, calls, &Area::ALL).expect("no difference");

@@ -5,7 +5,7 @@ use difftest::{Area, run, seed};
 use model::Model;
 use testkit::{Broken, Fault};
 
-const CALLS: usize = 210_000;
+const CALLS: usize = 360_000;
 const SEED: u64 = 20_261_115;
 
 fn broken(fault: Fault) -> Broken<Model> {
@@ -32,6 +32,7 @@ fn every_fault_is_found() {
     let found = |fault| run(Model::default(), broken(fault), seed, CALLS, &Area::ALL).is_err();
     let missed: Vec<_> = Fault::ALL
         .into_iter()
+        .filter(|fault| !Fault::UNSCRIPTED.contains(fault))
         .filter(|&fault| !found(fault))
         .collect();
     assert!(missed.is_empty(), "not found: {missed:?}");
@@ -39,14 +40,16 @@ fn every_fault_is_found() {
 
 #[test]
 fn a_difference_is_shown_as_a_script() {
-    let fault = Fault::FullWindowLooksEmpty;
-    let difference = run(Model::default(), broken(fault), SEED, CALLS, &Area::ALL).unwrap_err();
-    let play = |engine: Broken<Model>| {
-        let mut answers = Vec::new();
-        script::play(engine, &difference.script[..], &mut answers).unwrap();
-        answers
-    };
-    assert_ne!(play(broken(Fault::None)), play(broken(fault)));
+    // The second is seen in a task's record first.
+    for fault in [Fault::FullWindowLooksEmpty, Fault::Type3KeepsBurst] {
+        let difference = run(Model::default(), broken(fault), SEED, CALLS, &Area::ALL).unwrap_err();
+        let play = |engine: Broken<Model>| {
+            let mut answers = Vec::new();
+            script::play(engine, &difference.script[..], &mut answers).unwrap();
+            answers
+        };
+        assert_ne!(play(broken(Fault::None)), play(broken(fault)));
+    }
 }
 
 #[test]
@@ -55,6 +58,7 @@ fn what_is_missing_is_named_where_an_area_is_left_out() {
         (Area::Headers, "read: task-management"),
         (Area::Logins, "login: gathered and judged"),
         (Area::Sessions, "window: 64 held without a gap"),
+        (Area::Tasks, "data-out: F one byte early, FIELD"),
     ] {
         let areas: Vec<_> = Area::ALL
             .into_iter()
@@ -77,6 +81,9 @@ fn hollow_engines_that_agree_are_given_away() {
         (Fault::LoginAlwaysRefused, "login: answer, T set"),
         (Fault::VoidIsNothing, "take: void"),
         (Fault::HolderAlwaysFree, "holder: held"),
+        (Fault::EmptyDataOut, "data-out: empty, F clear"),
+        (Fault::FOneEarly, "data-out: F one byte early, FIELD"),
+        (Fault::R2tOneFewer, "r2t: the eighth open"),
     ] {
         let report = run(broken(fault), broken(fault), SEED, CALLS, &Area::ALL).unwrap();
         assert!(

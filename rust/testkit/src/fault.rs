@@ -3,10 +3,14 @@
 use calls::{Engine, Response};
 use std::collections::{BTreeMap, BTreeSet};
 
+mod data_headers;
 mod headers;
 mod login;
 mod questions;
 mod session;
+mod task_statuses;
+mod tasks_came;
+mod tasks_sent;
 
 /// What is wrong with an engine.
 #[derive(Clone, Copy, Debug, PartialEq, Eq, PartialOrd, Ord)]
@@ -33,6 +37,234 @@ pub enum Fault {
     LoginShowsLun,
     /// A NOP-Out without a tag needn't be immediate.
     NopOutWithoutTag,
+    /// A Data-Out is OPCODE.
+    DataOutUnknown,
+    /// A Data-Out shows bytes 24 to 27 as its CmdSN.
+    DataOutShowsCmdSn,
+    /// A Data-Out shows I.
+    DataOutShowsI,
+    /// A Data-Out without F is FIELD.
+    DataOutNeedsF,
+    /// Additional headers are read in a Data-Out.
+    DataOutAhs,
+    /// A Data-Out without a Target Transfer Tag is FIELD.
+    DataOutNeedsTag,
+    /// A Data-Out without data is FIELD.
+    DataOutNeedsData,
+    /// A Data-Out's DataSN and Buffer Offset are read from each other's place.
+    DataOutSwapped,
+    /// A Data-Out that is offered is immediate.
+    DataOutOffered,
+    /// A Data-Out in a SNACK's place is SNACK.
+    DataOutAsSnack,
+    /// A Data-In carries StatSN.
+    DataInStatSn,
+    /// A Data-In's byte 1 has its highest bit, as that of others.
+    DataInAlwaysFinal,
+    /// A isn't written.
+    DataInWithoutA,
+    /// A Data-In has its length in bytes 44 to 47 too.
+    DataInLengthTwice,
+    /// A Data-In's length isn't held to 8,192 bytes.
+    DataInAnyLength,
+    /// A Data-In with A and no Target Transfer Tag is FIELD in writing.
+    DataInNeedsTag,
+    /// An R2T has its desired length as DataSegmentLength.
+    R2tDataLength,
+    /// An R2T's StatSN is 0, as a Data-In's.
+    R2tStatSnZero,
+    /// An R2T without a Target Transfer Tag is FIELD in writing.
+    R2tNeedsTag,
+    /// An R2T that asks for nothing is FIELD in writing.
+    R2tNeedsLength,
+    /// A SCSI Response's ExpDataSN isn't written.
+    ExpDataSnLeftOut,
+    /// A SCSI Response's ExpDataSN stands in bytes 40 to 43.
+    ExpDataSnAfterResidual,
+    /// A Data-In or an R2T is sent as a status.
+    DataSent,
+    /// A Data-In that is sent is FIELD before it is TOOLONG.
+    DataSentFieldFirst,
+    /// A Data-In or an R2T that is sent is FULL before it is FIELD.
+    DataSentFullFirst,
+    /// A record of MaxOutstandingR2T above 8 is made, for 8.
+    TaskMoreR2ts,
+    /// MaxOutstandingR2T is cut to eight bits at a record's making.
+    TaskCutR2ts,
+    /// A record of MaxOutstandingR2T 0 is made, for 1.
+    TaskZeroR2ts,
+    /// A record starts at 0, whatever immediate data came.
+    TaskForgetsImmediate,
+    /// DataSN starts anew after each F.
+    DataSnRestartsAtF,
+    /// The limit of a burst is applied to the whole transfer.
+    BurstIsTransfer,
+    /// The limit of a burst is applied to each Data-In alone.
+    BurstIsPdu,
+    /// A burst must be shorter than MaxBurstLength.
+    BurstOneShort,
+    /// Data-In may not reach the last byte before 2^32.
+    OffsetsOneShort,
+    /// An empty Data-In is sent at offset 2^32.
+    EmptyAtTheEnd,
+    /// The last number that may be sent is refused.
+    NumbersOneShort,
+    /// The count sent wraps at 2^32.
+    NumbersWrap,
+    /// An empty Data-In is FIELD.
+    EmptyDataIn,
+    /// A Data-In with A has no transfer tag.
+    TagOfALeftOut,
+    /// A Data-In with A has no LUN.
+    LunOfALeftOut,
+    /// A Data-In without A has LUN and transfer tag.
+    TagsWithoutA,
+    /// A Data-In with A is sent for a task without a transfer tag.
+    AWithoutTag,
+    /// A Data-In of a task carries the next StatSN.
+    DataInCarriesStatSn,
+    /// A Data-In uses up a StatSN.
+    DataInStored,
+    /// A Data-In's Buffer Offset counts from the start of its burst.
+    DataInOffsetOfBurst,
+    /// A refused Data-In uses up its number.
+    RefusedDataInCounts,
+    /// An R2T is stored as a status.
+    R2tStored,
+    /// R2TSN doesn't count the Data-In.
+    R2tOwnNumbers,
+    /// An R2T asks from where the data came up to.
+    R2tFromCame,
+    /// An R2T may ask for more than MaxBurstLength.
+    R2tAnyLength,
+    /// An R2T must ask for less than MaxBurstLength.
+    R2tLengthOneShort,
+    /// An R2T may ask for nothing.
+    R2tOfNothing,
+    /// An R2T may not ask for the last byte before 2^32.
+    R2tOffsetsOneShort,
+    /// Eight R2Ts stand open whatever MaxOutstandingR2T is.
+    R2tAnyCount,
+    /// The last R2T that may stand open is refused, but for the first.
+    R2tOneFewer,
+    /// An R2T may have tag 0xffffffff.
+    R2tWithoutTag,
+    /// An R2T whose tag another open one has is FIELD.
+    R2tTagTwice,
+    /// An R2T has no LUN.
+    R2tLunLeftOut,
+    /// An R2T ends the burst of Data-In.
+    R2tEndsBurst,
+    /// An R2T counts as a Data-In for ExpDataSN.
+    R2tIsDataIn,
+    /// The newest open R2T is answered first.
+    NewestR2tFirst,
+    /// Any open R2T's tag is taken for the oldest one's.
+    AnyOpenR2t,
+    /// Data-Out with tag 0xffffffff is taken for the oldest R2T's.
+    UnsolicitedTaken,
+    /// F is accepted one byte early.
+    FOneEarly,
+    /// F ends an R2T before its end.
+    FAnywhere,
+    /// F may be clear at the R2T's end.
+    FMissing,
+    /// Data past the R2T's end is accepted.
+    PastTheEnd,
+    /// An empty Data-Out is FIELD.
+    EmptyDataOut,
+    /// Data-Out's DataSN goes on over F.
+    DataSnOverF,
+    /// Data-Out's DataSN isn't looked at.
+    AnyDataSn,
+    /// The last DataSN is due.
+    LastDataSnDue,
+    /// Data-Out's Buffer Offset isn't looked at.
+    AnyOffset,
+    /// Data-Out's Initiator Task Tag isn't looked at.
+    AnyItt,
+    /// Data-Out of another LUN is FIELD.
+    LunCompared,
+    /// Data-Out's answer counts the R2Ts open before it.
+    OpenBefore,
+    /// A refused Data-Out uses up its DataSN.
+    RefusedDataOutCounts,
+    /// A data SNACK's run from 0 is all.
+    DataZeroIsAll,
+    /// A data SNACK's run past the end is clipped.
+    DataRunClipped,
+    /// Acknowledged numbers can be asked for again.
+    AcknowledgedAgain,
+    /// A type 0 acknowledges the numbers before its run.
+    RunAcknowledges,
+    /// An older DataACK takes back what is acknowledged.
+    DataAckGoesBack,
+    /// An older DataACK is SNACK.
+    OlderDataAckRefused,
+    /// A DataACK above the count acknowledges all.
+    DataAckClipped,
+    /// A DataACK of all that was sent is SNACK.
+    DataAckOneShort,
+    /// A DataACK with a RunLength is SNACK.
+    DataAckRunLength,
+    /// A DataACK's tag isn't looked at.
+    DataAckAnyTag,
+    /// A DataACK with tag 0xffffffff is due for a task without a transfer tag.
+    DataAckWithoutTag,
+    /// A data SNACK's Initiator Task Tag isn't looked at.
+    SnackAnyItt,
+    /// A status SNACK in a data SNACK's place is SNACK.
+    StatusSnackIsSnack,
+    /// A data SNACK at level 0 is SNACK before FIELD.
+    LevelBeforeTags,
+    /// A type 3 keeps the count.
+    Type3KeepsCount,
+    /// The count goes on from 0 after a type 3.
+    Type3FromZero,
+    /// A type 3 doesn't begin a burst.
+    Type3KeepsBurst,
+    /// A type 3 doesn't move the offset.
+    Type3KeepsOffset,
+    /// A later type 3's tag isn't taken.
+    Type3KeepsTag,
+    /// A type 3 closes the open R2Ts.
+    Type3ClosesR2ts,
+    /// After a type 3 no Data-In was ever sent.
+    Type3ForgetsDataIn,
+    /// A type 3 with a run is served.
+    Type3WithRun,
+    /// ExpDataSN counts R2Ts where no Data-In was sent.
+    ExpDataSnOfR2ts,
+    /// ExpDataSN isn't 0 for another response code than 0.
+    ExpDataSnOfFailed,
+    /// ExpDataSN is sent as it is stated.
+    ExpDataSnStated,
+    /// A SCSI Response's Initiator Task Tag isn't compared.
+    StatusAnyItt,
+    /// A SCSI Response's SNACK tag isn't compared.
+    StatusAnySnackTag,
+    /// A SCSI Response with a wrong tag is FIELD before TOOLONG.
+    TagsBeforeTooLong,
+    /// A SCSI Response with a wrong tag is FULL before FIELD.
+    TagsAfterFull,
+    /// A resend has the ExpDataSN of the send.
+    ResendOldCount,
+    /// A resend has the SNACK tag of the send.
+    ResendOldTag,
+    /// A resend with a record without a type 3 has SNACK tag 0.
+    ResendClearsTag,
+    /// A resend with another task's record is FIELD.
+    ResendJudgesTask,
+    /// A resend's ExpDataSN isn't 0 for another response code than 0.
+    ResendCountOfFailed,
+    /// A resend of any status has an ExpDataSN.
+    ResendCountsOthers,
+    /// A data call looks at its connection last.
+    DataConnectionLast,
+    /// A data call looks at its connection before its output.
+    DataBufferLast,
+    /// A Data-In that no rule allows is FIELD before TOOLONG.
+    DataFieldBeforeTooLong,
     /// O and U are written as the bidirectional bits.
     BidirectionalBits,
     /// A Reject has no 0xff bytes.
@@ -173,7 +405,7 @@ pub enum Fault {
 
 impl Fault {
     /// Every fault.
-    pub const ALL: [Fault; 78] = [
+    pub const ALL: [Fault; 192] = [
         Fault::OpcodeBeforeShort,
         Fault::LengthBeforeTooLong,
         Fault::PadWordTooMany,
@@ -184,6 +416,120 @@ impl Fault {
         Fault::ReadIsEnough,
         Fault::LoginShowsLun,
         Fault::NopOutWithoutTag,
+        Fault::DataOutUnknown,
+        Fault::DataOutShowsCmdSn,
+        Fault::DataOutShowsI,
+        Fault::DataOutNeedsF,
+        Fault::DataOutAhs,
+        Fault::DataOutNeedsTag,
+        Fault::DataOutNeedsData,
+        Fault::DataOutSwapped,
+        Fault::DataOutOffered,
+        Fault::DataOutAsSnack,
+        Fault::DataInStatSn,
+        Fault::DataInAlwaysFinal,
+        Fault::DataInWithoutA,
+        Fault::DataInLengthTwice,
+        Fault::DataInAnyLength,
+        Fault::DataInNeedsTag,
+        Fault::R2tDataLength,
+        Fault::R2tStatSnZero,
+        Fault::R2tNeedsTag,
+        Fault::R2tNeedsLength,
+        Fault::ExpDataSnLeftOut,
+        Fault::ExpDataSnAfterResidual,
+        Fault::DataSent,
+        Fault::DataSentFieldFirst,
+        Fault::DataSentFullFirst,
+        Fault::TaskMoreR2ts,
+        Fault::TaskCutR2ts,
+        Fault::TaskZeroR2ts,
+        Fault::TaskForgetsImmediate,
+        Fault::DataSnRestartsAtF,
+        Fault::BurstIsTransfer,
+        Fault::BurstIsPdu,
+        Fault::BurstOneShort,
+        Fault::OffsetsOneShort,
+        Fault::EmptyAtTheEnd,
+        Fault::NumbersOneShort,
+        Fault::NumbersWrap,
+        Fault::EmptyDataIn,
+        Fault::TagOfALeftOut,
+        Fault::LunOfALeftOut,
+        Fault::TagsWithoutA,
+        Fault::AWithoutTag,
+        Fault::DataInCarriesStatSn,
+        Fault::DataInStored,
+        Fault::DataInOffsetOfBurst,
+        Fault::RefusedDataInCounts,
+        Fault::R2tStored,
+        Fault::R2tOwnNumbers,
+        Fault::R2tFromCame,
+        Fault::R2tAnyLength,
+        Fault::R2tLengthOneShort,
+        Fault::R2tOfNothing,
+        Fault::R2tOffsetsOneShort,
+        Fault::R2tAnyCount,
+        Fault::R2tOneFewer,
+        Fault::R2tWithoutTag,
+        Fault::R2tTagTwice,
+        Fault::R2tLunLeftOut,
+        Fault::R2tEndsBurst,
+        Fault::R2tIsDataIn,
+        Fault::NewestR2tFirst,
+        Fault::AnyOpenR2t,
+        Fault::UnsolicitedTaken,
+        Fault::FOneEarly,
+        Fault::FAnywhere,
+        Fault::FMissing,
+        Fault::PastTheEnd,
+        Fault::EmptyDataOut,
+        Fault::DataSnOverF,
+        Fault::AnyDataSn,
+        Fault::LastDataSnDue,
+        Fault::AnyOffset,
+        Fault::AnyItt,
+        Fault::LunCompared,
+        Fault::OpenBefore,
+        Fault::RefusedDataOutCounts,
+        Fault::DataZeroIsAll,
+        Fault::DataRunClipped,
+        Fault::AcknowledgedAgain,
+        Fault::RunAcknowledges,
+        Fault::DataAckGoesBack,
+        Fault::OlderDataAckRefused,
+        Fault::DataAckClipped,
+        Fault::DataAckOneShort,
+        Fault::DataAckRunLength,
+        Fault::DataAckAnyTag,
+        Fault::DataAckWithoutTag,
+        Fault::SnackAnyItt,
+        Fault::StatusSnackIsSnack,
+        Fault::LevelBeforeTags,
+        Fault::Type3KeepsCount,
+        Fault::Type3FromZero,
+        Fault::Type3KeepsBurst,
+        Fault::Type3KeepsOffset,
+        Fault::Type3KeepsTag,
+        Fault::Type3ClosesR2ts,
+        Fault::Type3ForgetsDataIn,
+        Fault::Type3WithRun,
+        Fault::ExpDataSnOfR2ts,
+        Fault::ExpDataSnOfFailed,
+        Fault::ExpDataSnStated,
+        Fault::StatusAnyItt,
+        Fault::StatusAnySnackTag,
+        Fault::TagsBeforeTooLong,
+        Fault::TagsAfterFull,
+        Fault::ResendOldCount,
+        Fault::ResendOldTag,
+        Fault::ResendClearsTag,
+        Fault::ResendJudgesTask,
+        Fault::ResendCountOfFailed,
+        Fault::ResendCountsOthers,
+        Fault::DataConnectionLast,
+        Fault::DataBufferLast,
+        Fault::DataFieldBeforeTooLong,
         Fault::BidirectionalBits,
         Fault::RejectWithoutTag,
         Fault::NsgDropped,
@@ -253,6 +599,14 @@ impl Fault {
         Fault::HolderAlwaysFree,
         Fault::LoginAlwaysRefused,
     ];
+
+    /// Faults in sends that no line of a script says: `send` takes statuses there, without ExpDataSN.
+    pub const UNSCRIPTED: [Fault; 4] = [
+        Fault::ExpDataSnStated,
+        Fault::DataSent,
+        Fault::DataSentFieldFirst,
+        Fault::DataSentFullFirst,
+    ];
 }
 
 /// An engine with a fault.
@@ -266,6 +620,7 @@ pub struct Broken<E> {
 /// What the wrapper remembers of the calls, for faults that need it.
 #[derive(Clone, Default)]
 struct Seen {
+    level: u8,
     void: u32,
     open: BTreeSet<u32>,
     /// How many statuses each connection holds.
@@ -311,6 +666,14 @@ fn is_ping(response: &Response) -> bool {
         }
     )
 }
+
+/// Whether a response is no status.
+fn is_data(response: &Response) -> bool {
+    matches!(response, Response::DataIn { .. } | Response::R2t { .. })
+}
+
+/// The tag that stands for none.
+const NO_TAG: u32 = 0xffff_ffff;
 
 /// The big-endian number of four bytes.
 fn number(bytes: &[u8], at: usize) -> u32 {

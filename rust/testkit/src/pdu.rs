@@ -109,6 +109,13 @@ pub fn login(flags: u8, text: &[u8]) -> Bytes {
     header.itt(0x13).data(text)
 }
 
+/// A Data-Out with F, of this DataSN and Buffer Offset.
+pub fn data_out(data_sn: u32, buffer_offset: u32) -> Bytes {
+    let header = Bytes::new(0x05, 0x80).itt(0x15).ttt(0x16);
+    let header = header.field(36, 4, data_sn.into());
+    header.field(40, 4, buffer_offset.into())
+}
+
 /// A logout request.
 pub fn logout(cmd_sn: u32, reason: u8) -> Bytes {
     Bytes::new(0x06, 0x80 | reason).cmd_sn(cmd_sn).itt(0x14)

@@ -17,6 +17,12 @@ const ANSWERS: &[(&str, &[&str])] = &[
     ("window", &["window"]),
     ("next", &["next"]),
     ("holder", &["free", "void", "held", "held, origin none"]),
+    ("task", &["task"]),
+    ("data-in", &["data-in"]),
+    ("r2t", &["r2t"]),
+    ("data-out", &["came"]),
+    ("data-snack", &["run", "acknowledged", "acknowledged none"]),
+    ("record", &["record", "set"]),
     ("length", &["length"]),
     (
         "read",
@@ -25,6 +31,7 @@ const ANSWERS: &[(&str, &[&str])] = &[
             "scsi-command",
             "task-management",
             "login",
+            "data-out",
             "logout",
             "snack",
         ],
@@ -46,13 +53,20 @@ const REFUSALS: &[(&str, &[u8])] = &[
     ("snack", &[2, 3, 4, 5, 7, 8, 12]),
     ("resend", &[1, 7, 8, 12]),
     ("next", &[7, 8]),
+    ("task", &[3]),
+    ("data-in", &[1, 3, 5, 7, 8]),
+    ("r2t", &[1, 3, 7, 8]),
+    ("data-out", &[2, 3, 4, 5, 7, 8]),
+    ("data-snack", &[2, 3, 4, 5, 7, 8, 12]),
     ("length", &[2, 4, 5]),
     ("read", &[2, 3, 4, 5]),
     ("write", &[1, 3, 5]),
     ("login", &[1, 2, 3, 4, 5, 6, 8]),
 ];
 
-const RESPONSES: &[&str] = &["0x20", "0x21", "0x22", "0x23", "0x26", "0x3f"];
+/// The responses that are sent, and those that are only written.
+const STATUS_OPCODES: &[&str] = &["0x20", "0x21", "0x22", "0x23", "0x26", "0x3f"];
+const DATA_OPCODES: &[&str] = &["0x25", "0x31"];
 const STATUSES: &[&str] = &[
     "0x0200", "0x0201", "0x0203", "0x0205", "0x0207", "0x0209", "0x020a",
 ];
@@ -134,6 +148,39 @@ const DEEP: &[&str] = &[
     "length: the greatest",
     "length: OPCODE though too long",
     "length: 8,193 bytes of data",
+    "Data-Out: F set",
+    "Data-Out: F clear",
+    "Data-Out: I and CmdSN not shown",
+    "Data-Out: empty",
+    "Data-Out: 8,192 bytes of data",
+    "Data-Out: TTT 0xffffffff",
+    "Data-Out: past 2^32",
+    "Data-Out: AHS refused",
+    "Data-Out: refused 4",
+    "Data-Out: refused 5",
+    "Data-Out: length of it",
+    "Data-Out: offered, FIELD",
+    "Data-Out: offered with a number of the window, FIELD",
+    "Data-Out: for a SNACK, FIELD",
+    "Data-Out: for a Login, FIELD",
+    "Data-In: neither F nor A",
+    "Data-In: F alone",
+    "Data-In: A alone",
+    "Data-In: F and A",
+    "Data-In: A with TTT 0xffffffff",
+    "Data-In: StatSN given and not written",
+    "Data-In: empty",
+    "Data-In: 8,192 bytes of data",
+    "Data-In: 8,193 bytes of data",
+    "Data-In: refused 1",
+    "R2T: StatSN written",
+    "R2T: TTT 0xffffffff",
+    "R2T: asks for nothing",
+    "R2T: asks for more than 8,192 bytes",
+    "R2T: past 2^32",
+    "R2T: refused 1",
+    "SCSI Response: ExpDataSN written",
+    "SCSI Response: without ExpDataSN",
     "login: gathered and judged",
     "login: three pieces gathered",
     "login: cut inside a pair",
@@ -160,9 +207,148 @@ const DEEP: &[&str] = &[
     "params: declared",
 ];
 
+/// The same of the data of tasks.
+const DEEP_DATA: &[&str] = &[
+    "data-in: burst to its last byte, F set",
+    "data-in: burst to its last byte, F clear",
+    "data-in: empty",
+    "data-in: empty, burst full",
+    "data-in: 8,192 bytes",
+    "data-in: F ends a burst of several",
+    "data-in: goes on in a burst",
+    "data-in: A",
+    "data-in: without A, tag left out",
+    "data-in: up to 2^32",
+    "data-in: the last number",
+    "data-in: after a type 3",
+    "data-in: with R2Ts open",
+    "data-in: a later burst",
+    "data-in: one byte past the burst, FIELD",
+    "data-in: empty at 2^32, FIELD",
+    "data-in: one byte past 2^32, FIELD",
+    "data-in: 2^32 - 1 sent, FIELD",
+    "data-in: A without a transfer tag, FIELD",
+    "r2t: of MaxBurstLength",
+    "r2t: of more than a data segment",
+    "r2t: the eighth open",
+    "r2t: the one that may stand open",
+    "r2t: up to 2^32",
+    "r2t: the last number",
+    "r2t: a tag twice",
+    "r2t: numbered with Data-In",
+    "r2t: in a burst of Data-In",
+    "r2t: after a type 3",
+    "r2t: without a tag, FIELD",
+    "r2t: of nothing, FIELD",
+    "r2t: one byte above MaxBurstLength, FIELD",
+    "r2t: one byte past 2^32, FIELD",
+    "r2t: a ninth, FIELD",
+    "r2t: a second where one may stand open, FIELD",
+    "r2t: 2^32 - 1 sent, FIELD",
+    "data-out: ends its R2T",
+    "data-out: ends a burst of several",
+    "data-out: leaves its R2T open",
+    "data-out: empty, F clear",
+    "data-out: 8,192 bytes",
+    "data-out: with eight open",
+    "data-out: the next R2T's turn",
+    "data-out: up to 2^32",
+    "data-out: of another LUN",
+    "data-out: the last DataSN but one",
+    "data-out: after a type 3",
+    "data-out: another kind, FIELD",
+    "data-out: AHS, FIELD",
+    "data-out: none open, FIELD",
+    "data-out: another ITT, FIELD",
+    "data-out: unsolicited, FIELD",
+    "data-out: of a later open R2T, FIELD",
+    "data-out: another DataSN, FIELD",
+    "data-out: DataSN 2^32 - 1, FIELD",
+    "data-out: another Buffer Offset, FIELD",
+    "data-out: one byte past the end, FIELD",
+    "data-out: F one byte early, FIELD",
+    "data-out: F clear at the end, FIELD",
+    "record: set with eight open",
+    "record: set with none open",
+    "record: set, asked up to 2^32",
+    "record: set, Data-In at 2^32",
+    "record: set, 2^32 - 1 sent",
+    "record: set, the last DataSN due",
+    "data-snack: all of none",
+    "data-snack: all of several",
+    "data-snack: all but the acknowledged",
+    "data-snack: to the end",
+    "data-snack: a part",
+    "data-snack: up to the last",
+    "data-snack: begins at 0 with a length",
+    "data-snack: from the oldest",
+    "data-snack: acknowledges a part",
+    "data-snack: acknowledges all",
+    "data-snack: acknowledges more",
+    "data-snack: acknowledges the same again",
+    "data-snack: an older DataACK",
+    "data-snack: DataACK with a RunLength",
+    "data-snack: type 3 in the middle of a burst",
+    "data-snack: type 3 of none",
+    "data-snack: type 3 after a DataACK",
+    "data-snack: type 3 of all",
+    "data-snack: type 3 with R2Ts open",
+    "data-snack: type 3 in a burst of Data-Out",
+    "data-snack: type 3 again",
+    "data-snack: type 3 at 2^32",
+    "data-snack: one past the end, SNACK",
+    "data-snack: far past the end, SNACK",
+    "data-snack: acknowledged, SNACK",
+    "data-snack: from 0, acknowledged, SNACK",
+    "data-snack: the next number, SNACK",
+    "data-snack: DataACK one above the count, SNACK",
+    "data-snack: type 3 with BegRun, SNACK",
+    "data-snack: type 3 with RunLength, SNACK",
+    "data-snack: type 0, another ITT, FIELD",
+    "data-snack: type 3, another ITT, FIELD",
+    "data-snack: type 2, another tag, FIELD",
+    "data-snack: type 2 without a transfer tag, FIELD",
+    "data-snack: type 1, FIELD",
+    "send: another response with a telling record",
+    "send: ExpDataSN is the count",
+    "send: ExpDataSN 2^32 - 1",
+    "send: ExpDataSN after a type 3",
+    "send: ExpDataSN after a DataACK",
+    "send: ExpDataSN 0 without Data-In",
+    "send: ExpDataSN 0 for another response code",
+    "send: another ITT, FIELD",
+    "send: another SNACK tag, FIELD",
+    "send: no SNACK tag after a type 3, FIELD",
+    "send: another tag though full, FIELD",
+    "send: another tag though too long, TOOLONG",
+    "resend: another status with a telling record",
+    "resend: another ExpDataSN",
+    "resend: no ExpDataSN any more",
+    "resend: ExpDataSN 0 for another response code",
+    "resend: another SNACK tag",
+    "resend: the stored SNACK tag stays",
+    "resend: with another task's record",
+    "data call: on a connection number above 255",
+    "data call: on a connection closed by a logout",
+    "data call: on a connection opened again",
+    "data call: on another connection than 0",
+    "data-in: when full",
+    "r2t: when full",
+    "data-snack: another kind, FIELD",
+];
+
 /// Everything that must be seen.
 pub fn required() -> Vec<String> {
-    let mut marks: Vec<String> = DEEP.iter().map(|&mark| mark.into()).collect();
+    let deep = DEEP.iter().chain(DEEP_DATA);
+    let mut marks: Vec<String> = deep.map(|&mark| mark.into()).collect();
+    for kind in [0, 2, 3] {
+        let mark =
+            |level: u8, said: &str| format!("data-snack: type {kind} at level {level} {said}");
+        marks.push(mark(0, "SNACK"));
+        marks.extend([1, 2, 255].map(|level| mark(level, "served")));
+        marks.extend([1, 2].map(|level| mark(level, "SNACK")));
+    }
+    marks.extend((0..script::TASKS).map(|n| format!("record {n} is used")));
     marks.extend((1..=12).map(|number| format!("refusal {number}")));
     for (call, answers) in ANSWERS {
         marks.extend(answers.iter().map(|answer| format!("{call}: {answer}")));
@@ -175,8 +361,13 @@ pub fn required() -> Vec<String> {
         );
     }
     for call in ["write", "send"] {
-        marks.extend(RESPONSES.iter().map(|opcode| format!("{call} {opcode}")));
+        marks.extend(
+            STATUS_OPCODES
+                .iter()
+                .map(|opcode| format!("{call} {opcode}")),
+        );
     }
+    marks.extend(DATA_OPCODES.iter().map(|opcode| format!("write {opcode}")));
     marks.extend(STATUSES.iter().map(|status| format!("status {status}")));
     for key in NEGOTIATED {
         marks.push(format!("key {key} accepted"));

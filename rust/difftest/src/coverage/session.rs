@@ -1,5 +1,6 @@
 //! What a session reached, seen from its calls and answers alone.
 
+use super::number;
 use calls::{Holder, Offer, Refusal, Response};
 use script::{Answer, Call};
 use std::collections::{BTreeMap, BTreeSet};
@@ -25,6 +26,23 @@ pub struct View {
 }
 
 impl View {
+    /// ErrorRecoveryLevel.
+    pub fn level(&self) -> u8 {
+        self.level
+    }
+
+    /// The header with which a held status was sent.
+    pub fn sent(&self, connection: u32, stat_sn: u32) -> Option<&[u8; 48]> {
+        let held = self.statuses.get(&connection)?;
+        let status = held.iter().find(|(number, _)| *number == stat_sn)?;
+        Some(&status.1)
+    }
+
+    /// Whether a connection holds 32 statuses.
+    pub fn is_full(&self, connection: u32) -> bool {
+        self.statuses.get(&connection).map_or(0, Vec::len) == 32
+    }
+
     pub fn saw(&mut self, call: &Call, answer: &Answer, marks: &mut Vec<String>) {
         let mut mark = |text: &str| marks.push(text.into());
         match (call, answer) {
@@ -43,6 +61,11 @@ impl View {
                 Answer::Offered(offer),
             ) => {
                 self.offered(*connection, number(pdu, 24), *offer, &mut mark);
+            }
+            (Call::Offer { pdu, .. }, Answer::Refused(Refusal::Field))
+                if pdu[0] & 0x3f == 0x05 && number(pdu, 24).wrapping_sub(self.next) < 64 =>
+            {
+                mark("Data-Out: offered with a number of the window, FIELD");
             }
             (_, Answer::Void(_)) => {
                 self.void = self.void.saturating_sub(1);
@@ -81,7 +104,46 @@ impl View {
             (Call::Holder { number }, Answer::Holder(holder)) => {
                 self.holder_asked(*number, *holder, &mut mark);
             }
+            (
+                Call::DataIn { connection, .. }
+                | Call::R2t { connection, .. }
+                | Call::DataOut { connection, .. }
+                | Call::DataSnack { connection, .. },
+                _,
+            ) => self.data_call(call, *connection, answer, &mut mark),
             _ => self.ledger(call, answer, &mut mark),
+        }
+    }
+
+    fn data_call(
+        &self,
+        call: &Call,
+        connection: u32,
+        answer: &Answer,
+        mark: &mut impl FnMut(&str),
+    ) {
+        let closed_by = self.closed_by.get(&connection);
+        match answer {
+            Answer::Refused(Refusal::NoConn) if connection > 255 => {
+                mark("data call: on a connection number above 255");
+            }
+            Answer::Refused(Refusal::Closed) if closed_by.is_some() => {
+                mark("data call: on a connection closed by a logout");
+            }
+            Answer::Refused(_) => {}
+            _ => {
+                if closed_by.is_some() {
+                    mark("data call: on a connection opened again");
+                }
+                if connection > 0 {
+                    mark("data call: on another connection than 0");
+                }
+                match call {
+                    Call::DataIn { .. } if self.is_full(connection) => mark("data-in: when full"),
+                    Call::R2t { .. } if self.is_full(connection) => mark("r2t: when full"),
+                    _ => {}
+                }
+            }
         }
     }
 
@@ -343,8 +405,4 @@ fn snack(
         }
         _ => {}
     }
-}
-
-fn number(pdu: &[u8], at: usize) -> u32 {
-    u32::from_be_bytes([pdu[at], pdu[at + 1], pdu[at + 2], pdu[at + 3]])
 }

@@ -81,7 +81,7 @@ pub fn lent(rng: &mut Rng) -> usize {
 
 /// A request whose every field has some value, and each boundary now and then.
 fn request(rng: &mut Rng) -> Bytes {
-    let kind = rng.below(6);
+    let kind = rng.below(7);
     let start = match kind {
         0 => Bytes::new(0x00, 0x80 | rng.number() as u8),
         1 => scsi_command(rng),
@@ -94,6 +94,7 @@ fn request(rng: &mut Rng) -> Bytes {
             let reason = rng.below(4) as u8;
             pdu::logout(0, reason)
         }
+        5 => Bytes::new(0x05, rng.number() as u8),
         _ => {
             let kind = rng.below(5) as u8;
             pdu::snack(kind, 0, 0)
@@ -103,7 +104,12 @@ fn request(rng: &mut Rng) -> Bytes {
     let mut filled = start;
     filled.0[8..48].copy_from_slice(&body);
     filled = filled.itt(tag(rng)).ttt(tag(rng));
-    if kind == 5 && !rng.one_in(3) {
+    if kind == 5 {
+        let (data_sn, offset) = (rng.u32(), rng.u32());
+        filled = filled.field(36, 4, data_sn.into());
+        filled = filled.field(40, 4, offset.into());
+    }
+    if kind == 6 && !rng.one_in(3) {
         filled = snack_tags(rng, filled);
     }
     if rng.one_in(3) || kind == 3 {
@@ -117,7 +123,7 @@ fn request(rng: &mut Rng) -> Bytes {
         let data = rng.bytes(length);
         filled = filled.data(&data);
     }
-    if kind == 1 && rng.one_in(4) {
+    if kind == 1 && rng.one_in(4) || kind == 5 && rng.one_in(12) {
         let words = rng.pick(&[1, 2, 9, 255]);
         filled = filled.ahs(words);
     }

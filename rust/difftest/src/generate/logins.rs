@@ -3,7 +3,7 @@
 use super::damage;
 use super::text::{self, Chooser};
 use script::{Answer, Call};
-use testkit::pdu::nop_out;
+use testkit::pdu::{data_out, nop_out};
 use testkit::{Bytes, Rng};
 
 /// The calls of logins, one after the other.
@@ -168,7 +168,11 @@ impl Dialogue {
             .itt(rng.u32());
         let head = head.field(20, 2, cid.into()).cmd_sn(rng.u32());
         let pdu = head.field(28, 4, rng.u32().into()).data(piece);
-        let pdu = if rng.one_in(200) { nop_out(1) } else { pdu };
+        let pdu = match rng.below(200) {
+            0 => nop_out(1),
+            1 => data_out(0, 0),
+            _ => pdu,
+        };
         let lent = |rng: &mut Rng| rng.pick(&[8192, 8192, 8192, 8193, 9000]);
         Call::Login {
             live: if rarely(rng) {

@@ -1,12 +1,50 @@
 //! Responses to write or send, at and around the boundaries of their fields.
 
-use calls::Response;
+use calls::{Response, Task};
 use testkit::Rng;
 
-/// One of the six, mostly good.
+/// One of the eight to write, mostly good.
 pub fn response(rng: &mut Rng) -> Response {
-    let kind = rng.below(6);
+    let kind = rng.below(8);
     response_of(rng, kind)
+}
+
+/// One of the six to send, mostly good. Its ExpDataSN is 0, as a script's, and so, mostly, is its SNACK tag.
+pub fn status(rng: &mut Rng) -> Response {
+    let kind = rng.below(6);
+    let mut status = response_of(rng, kind);
+    if let Response::Scsi {
+        snack_tag,
+        exp_data_sn,
+        ..
+    } = &mut status
+    {
+        *exp_data_sn = 0;
+        if !rng.one_in(8) {
+            *snack_tag = 0;
+        }
+    }
+    status
+}
+
+/// A SCSI Response for a task, mostly with its tags and mostly of a command that was completed.
+pub fn scsi_of(rng: &mut Rng, task: &Task) -> Response {
+    let other = rng.u32();
+    Response::Scsi {
+        overflow: rng.one_in(4),
+        underflow: rng.one_in(16),
+        response: if rng.one_in(3) { rng.number() as u8 } else { 0 },
+        status: rng.number() as u8,
+        data_segment_length: length(rng),
+        itt: if rng.one_in(10) { other } else { task.itt },
+        snack_tag: match rng.below(12) {
+            0 => other,
+            1 => 0,
+            _ => task.snack_tag,
+        },
+        residual: rng.u32(),
+        exp_data_sn: 0,
+    }
 }
 
 fn length(rng: &mut Rng) -> u32 {
@@ -14,6 +52,7 @@ fn length(rng: &mut Rng) -> u32 {
         0 => 8192,
         1 => 8193,
         2 => rng.u32(),
+        3 => 0,
         _ => rng.below(200) as u32,
     }
 }
@@ -44,6 +83,7 @@ fn response_of(rng: &mut Rng, kind: u64) -> Response {
             itt: tag(rng),
             snack_tag: rng.u32(),
             residual: rng.u32(),
+            exp_data_sn: rng.u32(),
         },
         2 => Response::TaskManagement {
             response: rng.number() as u8,
@@ -56,8 +96,26 @@ fn response_of(rng: &mut Rng, kind: u64) -> Response {
             time2wait: rng.number() as u16,
             time2retain: rng.number() as u16,
         },
-        _ => Response::Reject {
+        5 => Response::Reject {
             reason: rng.number() as u8,
+        },
+        6 => Response::DataIn {
+            final_bit: rng.one_in(2),
+            acknowledge: rng.one_in(2),
+            data_segment_length: length(rng),
+            lun: rng.number(),
+            itt: tag(rng),
+            ttt: tag(rng),
+            data_sn: rng.u32(),
+            buffer_offset: rng.u32(),
+        },
+        _ => Response::R2t {
+            lun: rng.number(),
+            itt: tag(rng),
+            ttt: tag(rng),
+            r2t_sn: rng.u32(),
+            buffer_offset: rng.u32(),
+            desired_data_transfer_length: rng.u32(),
         },
     }
 }

@@ -2,7 +2,7 @@
 
 use super::damage;
 use super::headers::lent;
-use super::responses::response;
+use super::responses::status;
 use calls::{Offer, Response};
 use script::{Answer, Call};
 use std::collections::{BTreeMap, BTreeSet};
@@ -149,8 +149,19 @@ impl Sessions {
         }
     }
 
+    /// Whether any connection is open.
+    pub fn has_open(&self) -> bool {
+        !self.ledgers.is_empty()
+    }
+
+    /// Whether 32 statuses of a connection aren't acknowledged.
+    pub fn is_full(&self, connection: u32) -> bool {
+        let ledger = self.ledgers.get(&connection);
+        ledger.is_some_and(|(held, _)| held.len() >= 32)
+    }
+
     /// An open connection if there is one.
-    fn open_connection(&self, rng: &mut Rng) -> u32 {
+    pub fn open_connection(&self, rng: &mut Rng) -> u32 {
         let open: Vec<_> = self.ledgers.keys().copied().collect();
         if open.is_empty() { 0 } else { rng.pick(&open) }
     }
@@ -215,7 +226,8 @@ impl Sessions {
         let mut bytes = match rng.below(24) {
             0 => pdu::login(0x87, b""),
             1 => pdu::snack(1, 0, 0),
-            2..=7 => pdu::nop_out(number),
+            2 => pdu::data_out(rng.below(4) as u32, rng.u32()).cmd_sn(number),
+            3..=7 => pdu::nop_out(number),
             8..=11 => pdu::task_management(number, 1 + rng.below(8) as u8),
             12..=13 => pdu::logout(number, rng.below(3) as u8),
             _ => pdu::scsi_command(number).data(&rng.number().to_be_bytes()[..rng.index(8)]),
@@ -233,10 +245,7 @@ impl Sessions {
     }
 
     fn send(&mut self, rng: &mut Rng) -> Call {
-        let full = self
-            .ledgers
-            .get(&self.connection)
-            .is_some_and(|(held, _)| held.len() >= 32);
+        let full = self.is_full(self.connection);
         if full && rng.one_in(3) {
             return self.acknowledge(rng);
         }
@@ -250,16 +259,17 @@ impl Sessions {
             connection: self.some_connection(rng),
             ticket: rng.u32(),
             lent: lent(rng),
+            task: None,
             response: if full && rng.one_in(2) {
                 ping
             } else {
-                response(rng)
+                status(rng)
             },
         }
     }
 
     /// A number in or around a ledger.
-    fn stat_sn(&self, rng: &mut Rng, connection: u32) -> u32 {
+    pub fn stat_sn(&self, rng: &mut Rng, connection: u32) -> u32 {
         let Some((held, next)) = self.ledgers.get(&connection) else {
             return rng.u32();
         };
@@ -275,7 +285,7 @@ impl Sessions {
         }
     }
 
-    fn acknowledge(&mut self, rng: &mut Rng) -> Call {
+    pub fn acknowledge(&mut self, rng: &mut Rng) -> Call {
         let connection = self.some_connection(rng);
         Call::Acknowledge {
             connection,
@@ -292,6 +302,7 @@ impl Sessions {
                 connection,
                 stat_sn: self.stat_sn(rng, connection),
                 lent: lent(rng),
+                task: None,
             },
         }
     }
@@ -323,6 +334,8 @@ impl Sessions {
         bytes = bytes.field(28, 4, self.stat_sn(rng, connection).into());
         if rng.one_in(20) {
             bytes = pdu::nop_out(self.next);
+        } else if rng.one_in(20) {
+            bytes = pdu::data_out(beg_run, rng.u32());
         }
         Call::Snack {
             connection,
@@ -400,7 +413,7 @@ impl Sessions {
 }
 
 /// A first number: often a few before the wrap.
-fn near_the_wrap(rng: &mut Rng) -> u32 {
+pub fn near_the_wrap(rng: &mut Rng) -> u32 {
     match rng.below(4) {
         0 => rng.u32(),
         1 => rng.below(4) as u32,

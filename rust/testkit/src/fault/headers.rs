@@ -16,7 +16,7 @@ impl<E: Engine + Clone> Broken<E> {
             (Fault::NopOutWithoutTag, 0x00) if pdu[16..20] == [0xff; 4] => pdu[0] |= 0x40,
             (Fault::VersionIgnored, 0x03) => pdu[3] = 0,
             (Fault::ZeroIsAll, 0x10) if pdu[40..44] == [0; 4] => pdu[44..48].fill(0),
-            (Fault::AhsAnywhere, opcode) if opcode != 0x01 => {
+            (Fault::AhsAnywhere, opcode) | (Fault::DataOutAhs, opcode @ 0x05) if opcode != 0x01 => {
                 let end = HEADER_BYTES + 4 * usize::from(pdu[4]);
                 if end <= pdu.len() {
                     pdu.drain(HEADER_BYTES..end);
@@ -53,6 +53,9 @@ impl<E: Engine + Clone> Broken<E> {
                 pdu.lun = super::number(bytes, 12).into();
             }
             _ => {}
+        }
+        if let Ok(pdu) = &mut read {
+            self.data_out(pdu, bytes)?;
         }
         read
     }
@@ -102,6 +105,7 @@ impl<E: Engine + Clone> Broken<E> {
             (Fault::RejectWithoutTag, Ok(_)) if out[0] == 0x3f => out[16..20].fill(0),
             (Fault::WritesAfterHeader, Ok(_)) if out.len() > HEADER_BYTES => out[HEADER_BYTES] = 0,
             (Fault::WritesOnRefusal, Err(_)) if !out.is_empty() => out[0] = 0,
+            (_, Ok(_)) => self.spoil_exp_data_sn(out),
             _ => {}
         }
     }
@@ -112,7 +116,14 @@ impl<E: Engine + Clone> Broken<E> {
         numbers: Numbers,
         response: &Response,
     ) -> Result<(), Refusal> {
-        let mut answer = self.inner.write(out, numbers, &self.response(response));
+        let mut answer = match self.data_written(&self.response(response)) {
+            Err(refusal) if out.len() >= HEADER_BYTES => return Err(refusal),
+            Err(_) => Err(Refusal::Buffer),
+            Ok(shown) => self.inner.write(out, numbers, &shown),
+        };
+        if answer.is_ok() {
+            self.spoil_data(out, numbers, response);
+        }
         if self.is(Fault::FieldBeforeTooLong) && answer == Err(Refusal::TooLong) {
             let both = matches!(
                 response,

@@ -3,8 +3,8 @@
 use super::questions::Kept;
 use super::{Broken, Fault, Seen, is_ping, number};
 use calls::{
-    Engine, HEADER_BYTES, Holder, LoginAnswer, LogoutCounts, Numbers, Offer, Parameters, Pdu,
-    Refusal, Response, Run, Take, Window,
+    Came, DataInPdu, DataSnack, Engine, HEADER_BYTES, Holder, LoginAnswer, LogoutCounts, Numbers,
+    Offer, Parameters, Pdu, Refusal, Response, Run, Take, Task, TaskGiven, Window,
 };
 
 impl<E: Engine + Clone> Broken<E> {
@@ -48,6 +48,7 @@ impl<E: Engine + Clone> Engine for Broken<E> {
         };
         self.inner.begin_session(first, stat_sn, level);
         self.seen = Seen::default();
+        self.seen.level = level;
         self.seen.open.insert(0);
     }
 
@@ -58,7 +59,8 @@ impl<E: Engine + Clone> Engine for Broken<E> {
         }
         let connection = self.connection(connection);
         let before = self.inner.clone();
-        let offer = self.inner.offer(connection, ticket, &shown)?;
+        let offer = self.inner.offer(connection, ticket, &shown);
+        let offer = self.data_out_offered(&shown, offer)?;
         if self.is(Fault::OfferAlwaysBeyond) && offer != Offer::Immediate {
             self.inner = before;
             return Ok(Offer::Beyond);
@@ -144,11 +146,12 @@ impl<E: Engine + Clone> Engine for Broken<E> {
         &mut self,
         connection: u32,
         ticket: u32,
+        task: &Task,
         out: &mut [u8],
         response: &Response,
     ) -> Result<u32, Refusal> {
         let held = self.count_of(connection);
-        let mut shown = self.response(response);
+        let mut shown = self.data_to_send(self.response(response));
         if let (Fault::NopInStored, Response::NopIn { itt, .. }) = (self.fault, &mut shown) {
             *itt &= 0x7fff_ffff;
         }
@@ -160,8 +163,11 @@ impl<E: Engine + Clone> Engine for Broken<E> {
         let before = out.to_vec();
         let inner = self.inner.clone();
         let target = self.connection(connection);
-        let answer = self.inner.send(target, ticket, out, &shown);
+        let record = self.record_to_send(task, &shown);
+        let answer = self.inner.send(target, ticket, &record, out, &shown);
         let mut answer = self.judged_first(&shown, answer);
+        answer = self.data_sent(&shown, held, answer);
+        answer = self.scsi_sent(task, &shown, held, answer);
         if too_many && answer.is_ok() {
             out.copy_from_slice(&before);
             self.inner = inner;
@@ -173,6 +179,7 @@ impl<E: Engine + Clone> Engine for Broken<E> {
                 self.seen.next.insert(connection, stat_sn.wrapping_add(1));
                 let header = out[..HEADER_BYTES].to_vec();
                 self.seen.sent.insert((connection, stat_sn), header);
+                self.spoil_sent(task, &shown, out);
             } else {
                 *self.seen.pings.entry(connection).or_default() += 1;
                 if self.is(Fault::NopInStored) {
@@ -200,7 +207,8 @@ impl<E: Engine + Clone> Engine for Broken<E> {
     fn snack(&mut self, connection: u32, pdu: &[u8]) -> Result<Run, Refusal> {
         let mut shown = self.disguised(pdu);
         let connection = self.connection(connection);
-        let mut answer = self.inner.snack(connection, &shown);
+        let answer = self.inner.snack(connection, &shown);
+        let mut answer = self.data_out_as_snack(&shown, answer);
         if self.is(Fault::RunClipped) && answer == Err(Refusal::Snack) && shown.len() >= 48 {
             shown[44..48].fill(0);
             if shown[40..44] != [0; 4] {
@@ -213,13 +221,26 @@ impl<E: Engine + Clone> Engine for Broken<E> {
         answer
     }
 
-    fn resend(&mut self, connection: u32, stat_sn: u32, out: &mut [u8]) -> Result<u32, Refusal> {
-        let answer = self.inner.resend(self.connection(connection), stat_sn, out);
-        if self.is(Fault::ResendAsSent)
-            && answer.is_ok()
+    fn resend(
+        &mut self,
+        connection: u32,
+        stat_sn: u32,
+        task: &Task,
+        out: &mut [u8],
+    ) -> Result<u32, Refusal> {
+        let target = self.connection(connection);
+        let untouched = out.to_vec();
+        let mut answer = self.inner.resend(target, stat_sn, task, out);
+        if answer.is_ok()
             && let Some(header) = self.seen.sent.get(&(connection, stat_sn))
         {
-            out[..HEADER_BYTES].copy_from_slice(header);
+            if self.is(Fault::ResendAsSent) {
+                out[..HEADER_BYTES].copy_from_slice(header);
+            }
+            if let Err(refusal) = self.spoil_resent(task, header, out) {
+                out.copy_from_slice(&untouched);
+                answer = Err(refusal);
+            }
         }
         self.spoil(out, &answer);
         answer
@@ -240,6 +261,45 @@ impl<E: Engine + Clone> Engine for Broken<E> {
 
     fn holder(&self, number: u32) -> Holder {
         self.holder_with_fault(number)
+    }
+
+    fn task(&self, given: TaskGiven) -> Result<Task, Refusal> {
+        self.task_with_fault(given)
+    }
+
+    fn data_in(
+        &mut self,
+        connection: u32,
+        task: &mut Task,
+        out: &mut [u8],
+        pdu: DataInPdu,
+    ) -> Result<(), Refusal> {
+        self.data_in_with_fault(connection, task, out, pdu)
+    }
+
+    fn r2t(
+        &mut self,
+        connection: u32,
+        task: &mut Task,
+        out: &mut [u8],
+        tag: u32,
+        length: u32,
+    ) -> Result<(), Refusal> {
+        self.r2t_with_fault(connection, task, out, tag, length)
+    }
+
+    fn data_out(&mut self, connection: u32, task: &mut Task, pdu: &[u8]) -> Result<Came, Refusal> {
+        self.data_out_with_fault(connection, task, pdu)
+    }
+
+    fn data_snack(
+        &mut self,
+        connection: u32,
+        task: &mut Task,
+        offset: u32,
+        pdu: &[u8],
+    ) -> Result<DataSnack, Refusal> {
+        self.data_snack_with_fault(connection, task, offset, pdu)
     }
 
     fn length(&self, header: &[u8]) -> Result<u32, Refusal> {

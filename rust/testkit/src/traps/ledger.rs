@@ -1,8 +1,8 @@
 //! Traps 26 to 35: the status ledger.
 
-use super::{FILL, checks, plain, send};
+use super::{FILL, NO_TASK, checks, plain, send};
 use crate::pdu::*;
-use calls::{Engine, HEADER_BYTES, Refusal, Response, Run};
+use calls::{Engine, HEADER_BYTES, Refusal, Response, Run, Task};
 
 checks![
     trap_26_runs,
@@ -37,7 +37,7 @@ fn run(e: &mut dyn Engine, beg_run: u32, run_length: u32) -> Result<(u32, u32), 
 
 fn resend(e: &mut dyn Engine, stat_sn: u32) -> Result<u32, Refusal> {
     let mut out = [FILL; HEADER_BYTES];
-    let answer = e.resend(0, stat_sn, &mut out);
+    let answer = e.resend(0, stat_sn, &NO_TASK, &mut out);
     match answer {
         Ok(_) => assert_eq!(out[24..28], stat_sn.to_be_bytes()),
         Err(_) => assert_eq!(out, [FILL; HEADER_BYTES]),
@@ -93,32 +93,53 @@ fn trap_29_the_nop_in_that_is_not_stored(e: &mut dyn Engine) {
     let mut out = [FILL; HEADER_BYTES];
     let ping = nop_in(NO_TAG, 5, 0);
     for _ in 0..2 {
-        assert_eq!(e.send(0, 1, &mut out, &ping), Ok(10));
+        assert_eq!(e.send(0, 1, &NO_TASK, &mut out, &ping), Ok(10));
         assert_eq!(out[24..28], 10u32.to_be_bytes());
     }
     assert_eq!(resend(e, 10), Err(Refusal::Snack));
     assert_eq!(run(e, 0, 0), Ok((10, 0)));
     // Another tag, or another response with that tag, is an ordinary status.
-    assert_eq!(e.send(0, 1, &mut out, &nop_in(4, NO_TAG, 0)), Ok(10));
-    assert_eq!(e.send(0, 1, &mut out, &plain(NO_TAG)), Ok(11));
+    assert_eq!(
+        e.send(0, 1, &NO_TASK, &mut out, &nop_in(4, NO_TAG, 0)),
+        Ok(10)
+    );
+    assert_eq!(e.send(0, 1, &NO_TASK, &mut out, &plain(NO_TAG)), Ok(11));
     assert_eq!(run(e, 0, 0), Ok((10, 2)));
     for ticket in 0..30 {
         send(e, 0, ticket);
     }
-    assert_eq!(e.send(0, 1, &mut out, &plain(1)), Err(Refusal::Full));
-    assert_eq!(e.send(0, 1, &mut out, &ping), Ok(42));
+    assert_eq!(
+        e.send(0, 1, &NO_TASK, &mut out, &plain(1)),
+        Err(Refusal::Full)
+    );
+    assert_eq!(e.send(0, 1, &NO_TASK, &mut out, &ping), Ok(42));
     // It isn't FULL, but the refusals before that are its own too.
     let long = nop_in(NO_TAG, 5, 8193);
-    assert_eq!(e.send(0, 1, &mut out, &long), Err(Refusal::TooLong));
-    assert_eq!(e.send(1, 1, &mut out, &ping), Err(Refusal::Closed));
-    assert_eq!(e.send(4, 1, &mut out, &ping), Err(Refusal::NoConn));
-    assert_eq!(e.send(4, 1, &mut out[..47], &ping), Err(Refusal::Buffer));
+    assert_eq!(
+        e.send(0, 1, &NO_TASK, &mut out, &long),
+        Err(Refusal::TooLong)
+    );
+    assert_eq!(
+        e.send(1, 1, &NO_TASK, &mut out, &ping),
+        Err(Refusal::Closed)
+    );
+    assert_eq!(
+        e.send(4, 1, &NO_TASK, &mut out, &ping),
+        Err(Refusal::NoConn)
+    );
+    assert_eq!(
+        e.send(4, 1, &NO_TASK, &mut out[..47], &ping),
+        Err(Refusal::Buffer)
+    );
 }
 
 fn trap_30_full(e: &mut dyn Engine) {
     holding(e, 0, 0xffff_fff0, 32);
     let mut out = [FILL; HEADER_BYTES];
-    assert_eq!(e.send(0, 1, &mut out, &plain(1)), Err(Refusal::Full));
+    assert_eq!(
+        e.send(0, 1, &NO_TASK, &mut out, &plain(1)),
+        Err(Refusal::Full)
+    );
     assert_eq!(out, [FILL; HEADER_BYTES]);
     // FULL comes after writing's refusals.
     let both = Response::Login {
@@ -132,12 +153,18 @@ fn trap_30_full(e: &mut dyn Engine) {
         status_class: 0,
         status_detail: 0,
     };
-    assert_eq!(e.send(0, 1, &mut out, &both), Err(Refusal::Field));
+    assert_eq!(e.send(0, 1, &NO_TASK, &mut out, &both), Err(Refusal::Field));
     let long = nop_in(1, 1, 8193);
-    assert_eq!(e.send(0, 1, &mut out, &long), Err(Refusal::TooLong));
+    assert_eq!(
+        e.send(0, 1, &NO_TASK, &mut out, &long),
+        Err(Refusal::TooLong)
+    );
     assert_eq!(e.acknowledge(0, 0xffff_fff1), Ok(1));
     assert_eq!(send(e, 0, 1), 0x10);
-    assert_eq!(e.send(0, 1, &mut out, &plain(1)), Err(Refusal::Full));
+    assert_eq!(
+        e.send(0, 1, &NO_TASK, &mut out, &plain(1)),
+        Err(Refusal::Full)
+    );
 }
 
 fn trap_31_acknowledging(e: &mut dyn Engine) {
@@ -167,15 +194,20 @@ fn trap_32_a_resend_carries_the_numbers_of_now(e: &mut dyn Engine) {
         itt: 4,
         snack_tag: 5,
         residual: 6,
+        exp_data_sn: 7,
+    };
+    let task = Task {
+        snack_tag: 5,
+        ..Task::fresh_for(4)
     };
     let mut sent = [FILL; HEADER_BYTES];
-    assert_eq!(e.send(0, 77, &mut sent, &response), Ok(5));
+    assert_eq!(e.send(0, 77, &task, &mut sent, &response), Ok(5));
     assert_eq!(sent[28..36], [0, 0, 0, 20, 0, 0, 0, 83]);
     for later in 1..3 {
         e.offer(0, 1, &scsi_command(19 + later).0).unwrap();
         e.take(&mut [0; 48]).unwrap();
         let mut again = [FILL; HEADER_BYTES];
-        assert_eq!(e.resend(0, 5, &mut again), Ok(77));
+        assert_eq!(e.resend(0, 5, &task, &mut again), Ok(77));
         let mut wanted = sent;
         wanted[28..32].copy_from_slice(&(20 + later).to_be_bytes());
         wanted[32..36].copy_from_slice(&(83 + later).to_be_bytes());
@@ -236,14 +268,23 @@ fn trap_35_a_reopened_connection(e: &mut dyn Engine) {
 fn order_of_refusals(e: &mut dyn Engine) {
     holding(e, 0, 10, 3);
     let (mut short, mut out) = ([FILL; 47], [FILL; 48]);
-    assert_eq!(e.send(9, 1, &mut short, &plain(1)), Err(Refusal::Buffer));
-    assert_eq!(e.send(4, 1, &mut out, &plain(1)), Err(Refusal::NoConn));
-    assert_eq!(e.send(3, 1, &mut out, &plain(1)), Err(Refusal::Closed));
+    assert_eq!(
+        e.send(9, 1, &NO_TASK, &mut short, &plain(1)),
+        Err(Refusal::Buffer)
+    );
+    assert_eq!(
+        e.send(4, 1, &NO_TASK, &mut out, &plain(1)),
+        Err(Refusal::NoConn)
+    );
+    assert_eq!(
+        e.send(3, 1, &NO_TASK, &mut out, &plain(1)),
+        Err(Refusal::Closed)
+    );
     assert_eq!(e.acknowledge(4, 0), Err(Refusal::NoConn));
     assert_eq!(e.acknowledge(3, 0), Err(Refusal::Closed));
-    assert_eq!(e.resend(4, 10, &mut short), Err(Refusal::Buffer));
-    assert_eq!(e.resend(4, 10, &mut out), Err(Refusal::NoConn));
-    assert_eq!(e.resend(3, 10, &mut out), Err(Refusal::Closed));
+    assert_eq!(e.resend(4, 10, &NO_TASK, &mut short), Err(Refusal::Buffer));
+    assert_eq!(e.resend(4, 10, &NO_TASK, &mut out), Err(Refusal::NoConn));
+    assert_eq!(e.resend(3, 10, &NO_TASK, &mut out), Err(Refusal::Closed));
     assert_eq!(e.snack(4, &[]), Err(Refusal::NoConn));
     assert_eq!(e.snack(3, &[]), Err(Refusal::Closed));
     assert_eq!(e.snack(0, &[]), Err(Refusal::Length));
@@ -262,15 +303,25 @@ fn a_send_looks_at_its_connection_before_its_response(e: &mut dyn Engine) {
         itt: 1,
         snack_tag: 0,
         residual: 0,
+        exp_data_sn: 0,
     };
     for (length, refusal) in [(8192, Refusal::Field), (8193, Refusal::TooLong)] {
         let (mut short, mut out) = ([FILL; 47], [FILL; 48]);
-        let response = both(length);
-        assert_eq!(e.send(4, 1, &mut short, &response), Err(Refusal::Buffer));
-        assert_eq!(e.send(4, 1, &mut out, &response), Err(Refusal::NoConn));
-        assert_eq!(e.send(3, 1, &mut out, &response), Err(Refusal::Closed));
+        let (response, task) = (both(length), Task::fresh_for(1));
+        assert_eq!(
+            e.send(4, 1, &task, &mut short, &response),
+            Err(Refusal::Buffer)
+        );
+        assert_eq!(
+            e.send(4, 1, &task, &mut out, &response),
+            Err(Refusal::NoConn)
+        );
+        assert_eq!(
+            e.send(3, 1, &task, &mut out, &response),
+            Err(Refusal::Closed)
+        );
         // Connection 0 is full, which comes last.
-        assert_eq!(e.send(0, 1, &mut out, &response), Err(refusal));
+        assert_eq!(e.send(0, 1, &task, &mut out, &response), Err(refusal));
         assert_eq!((short, out), ([FILL; 47], [FILL; 48]));
     }
 }
@@ -284,6 +335,7 @@ fn snack_kinds(e: &mut dyn Engine) {
     for bytes in [
         scsi_command(1),
         login(0, b""),
+        data_out(1, 2),
         logout(1, 0),
         task_management(1, 1),
     ] {
@@ -314,9 +366,9 @@ fn the_stat_sn_wraps(e: &mut dyn Engine) {
 fn later_bytes_stay(e: &mut dyn Engine) {
     holding(e, 1, 10, 1);
     let mut out = [FILL; 60];
-    assert_eq!(e.resend(0, 10, &mut out), Ok(100));
+    assert_eq!(e.resend(0, 10, &NO_TASK, &mut out), Ok(100));
     assert_eq!(out[48..], [FILL; 12]);
     let mut out = [FILL; 60];
-    assert_eq!(e.send(0, 1, &mut out, &plain(1)), Ok(11));
+    assert_eq!(e.send(0, 1, &NO_TASK, &mut out, &plain(1)), Ok(11));
     assert_eq!(out[48..], [FILL; 12]);
 }

@@ -115,6 +115,8 @@ fn trap_36_order_of_refusals(e: &mut dyn Engine) {
     assert_eq!(ask(e, 0, (0, 0), &[0; 47]), Err(Refusal::Length));
     assert_eq!(ask(e, 0, (0, 0), &end.0), Err(Refusal::Field));
     assert_eq!(ask(e, 7, (0, 0), &pdu::nop_out(1).0), Err(Refusal::Field));
+    let data = pdu::data_out(0, 0);
+    assert_eq!(ask(e, 7, (0, 0), &data.0), Err(Refusal::Field));
     let version = end.clone().byte(3, 1);
     assert_eq!(ask(e, 0, (0, 0), &version.0), Err(Refusal::Field));
     // None of these ended the login.

@@ -1,6 +1,7 @@
-//! The boundaries of document 01's rules, as checks for any engine. The names carry the number of the trap in the
+//! The boundaries of document 01's and the requests' rules, as checks for any engine. The names carry the number of the trap in the
 //! project's list of places where a careless reader goes wrong.
 
+mod data_headers;
 mod ledger;
 mod login;
 mod login_keys;
@@ -9,12 +10,13 @@ pub mod long;
 mod questions;
 mod reading;
 mod sequences;
+mod tasks;
 mod window;
 mod writing;
 
 pub use login_keys::LIBISCSI;
 
-use calls::{Engine, HEADER_BYTES, Response};
+use calls::{Engine, HEADER_BYTES, Response, Task};
 
 /// A check: it panics where the engine is wrong.
 pub type Check = fn(&mut dyn Engine);
@@ -33,9 +35,16 @@ pub fn all() -> Vec<(&'static str, Check)> {
     let files = [
         reading::CHECKS,
         writing::CHECKS,
+        data_headers::CHECKS,
         window::CHECKS,
         ledger::CHECKS,
         questions::CHECKS,
+        tasks::CHECKS,
+        tasks::data_in::CHECKS,
+        tasks::r2t::CHECKS,
+        tasks::data_out::CHECKS,
+        tasks::data_snack::CHECKS,
+        tasks::status::CHECKS,
         login::CHECKS,
         login_steps::CHECKS,
         login_keys::CHECKS,
@@ -64,6 +73,9 @@ pub fn failures<E: Engine>(fresh: impl Fn() -> E + std::panic::RefUnwindSafe) ->
 /// The byte that a lent output is filled with.
 const FILL: u8 = 0xee;
 
+/// The record that a response other than a SCSI Response goes with: none of it is looked at.
+static NO_TASK: Task = Task::fresh_for(0);
+
 /// A task management response: the plainest status.
 fn plain(itt: u32) -> Response {
     Response::TaskManagement { response: 0, itt }
@@ -72,6 +84,6 @@ fn plain(itt: u32) -> Response {
 /// Send a plain status and give its StatSN.
 fn send(e: &mut dyn Engine, connection: u32, ticket: u32) -> u32 {
     let mut out = [FILL; HEADER_BYTES];
-    e.send(connection, ticket, &mut out, &plain(ticket))
+    e.send(connection, ticket, &NO_TASK, &mut out, &plain(ticket))
         .unwrap()
 }

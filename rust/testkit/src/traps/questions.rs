@@ -1,6 +1,6 @@
 //! The three questions: a PDU's whole length, a connection's next StatSN, the holder of a number.
 
-use super::{FILL, checks, plain, send};
+use super::{FILL, NO_TASK, checks, plain, send};
 use crate::pdu::*;
 use calls::{Engine, HEADER_BYTES, Holder, Offer, Refusal, Response, Take};
 
@@ -29,12 +29,13 @@ checks![
 ];
 
 /// A good PDU of each kind.
-fn kinds() -> [Bytes; 6] {
+fn kinds() -> [Bytes; 7] {
     [
         nop_out(1),
         scsi_command(1),
         task_management(1, 1),
         login(0x87, b""),
+        data_out(1, 2),
         logout(1, 1),
         snack(1, 0, 0),
     ]
@@ -76,6 +77,7 @@ fn length_has_no_field_rules(e: &mut dyn Engine) {
         (scsi_command(1).byte(1, 0x07), 48),
         (task_management(1, 9).data(b"a"), 52),
         (login(0x87, b"abc").byte(0, 0x03), 52),
+        (data_out(1, 2).ahs(2), 56),
         (logout(1, 0x7f).data(b"abcde"), 56),
         (snack(4, 0, 0).ahs(1), 52),
     ] {
@@ -124,7 +126,7 @@ fn length_at_the_longest_data_segment(e: &mut dyn Engine) {
 
 fn length_of_every_opcode(e: &mut dyn Engine) {
     for byte in 0..=255 {
-        let known = [0x00, 0x01, 0x02, 0x03, 0x06, 0x10].contains(&(byte & 0x3f));
+        let known = [0x00, 0x01, 0x02, 0x03, 0x05, 0x06, 0x10].contains(&(byte & 0x3f));
         let wanted = if known { Ok(48) } else { Err(Refusal::Opcode) };
         assert_eq!(e.length(&Bytes::new(byte, 0).0), wanted, "{byte:#x}");
     }
@@ -133,7 +135,12 @@ fn length_of_every_opcode(e: &mut dyn Engine) {
 fn length_is_that_of_what_is_read(e: &mut dyn Engine) {
     for data in 0..=9 {
         let text = vec![7; data];
-        let pdus = [nop_out(1), scsi_command(1).ahs(3), snack(1, 0, 0)];
+        let pdus = [
+            nop_out(1),
+            scsi_command(1).ahs(3),
+            data_out(1, 2),
+            snack(1, 0, 0),
+        ];
         for bytes in pdus.map(|bytes| bytes.data(&text)) {
             assert!(e.read(&bytes.0).is_ok());
             assert_eq!(e.length(&bytes.0[..48]), Ok(bytes.0.len() as u32));
@@ -151,12 +158,15 @@ fn next_moves_with_statuses_only(e: &mut dyn Engine) {
         assert_eq!(send(e, 0, stat_sn), stat_sn);
     }
     // Neither a refused send nor what becomes of the held ones moves it.
-    assert_eq!(e.send(0, 1, &mut out, &plain(1)), Err(Refusal::Full));
     assert_eq!(
-        e.send(0, 1, &mut out[..47], &plain(1)),
+        e.send(0, 1, &NO_TASK, &mut out, &plain(1)),
+        Err(Refusal::Full)
+    );
+    assert_eq!(
+        e.send(0, 1, &NO_TASK, &mut out[..47], &plain(1)),
         Err(Refusal::Buffer)
     );
-    assert_eq!(e.resend(0, 12, &mut out), Ok(12));
+    assert_eq!(e.resend(0, 12, &NO_TASK, &mut out), Ok(12));
     assert!(e.snack(0, &snack(1, 0, 0).0).is_ok());
     assert_eq!(e.next_stat_sn(0), Ok(42));
     for exp_stat_sn in [11, 42] {
@@ -176,12 +186,12 @@ fn next_stays_at_a_nop_in_without_a_tag(e: &mut dyn Engine) {
     };
     let mut out = [FILL; HEADER_BYTES];
     for _ in 0..3 {
-        assert_eq!(e.send(0, 1, &mut out, &nop_in(NO_TAG)), Ok(10));
+        assert_eq!(e.send(0, 1, &NO_TASK, &mut out, &nop_in(NO_TAG)), Ok(10));
         assert_eq!(e.next_stat_sn(0), Ok(10));
     }
-    assert_eq!(e.send(0, 1, &mut out, &nop_in(4)), Ok(10));
+    assert_eq!(e.send(0, 1, &NO_TASK, &mut out, &nop_in(4)), Ok(10));
     assert_eq!(e.next_stat_sn(0), Ok(11));
-    assert_eq!(e.send(0, 1, &mut out, &plain(NO_TAG)), Ok(11));
+    assert_eq!(e.send(0, 1, &NO_TASK, &mut out, &plain(NO_TAG)), Ok(11));
     assert_eq!(e.next_stat_sn(0), Ok(12));
 }
 

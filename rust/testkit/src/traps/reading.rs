@@ -105,6 +105,7 @@ fn trap_04_ahs_in_scsi_command_only(e: &mut dyn Engine) {
         nop_out(1),
         task_management(1, 1),
         login(0, b""),
+        data_out(1, 2),
         logout(1, 0),
         snack(1, 0, 0),
     ];
@@ -119,10 +120,11 @@ fn trap_05_reserved_bits_of_byte_0(e: &mut dyn Engine) {
     let plain = good(e, scsi_command(5));
     assert_eq!(good(e, scsi_command(5).or(0, 0x80)), plain);
     assert!(!plain.immediate && good(e, scsi_command(5).immediate()).immediate);
-    let marked = snack(1, 0, 0).or(0, 0xc0).cmd_sn(0x0102_0304);
-    let read = good(e, marked);
-    assert!(!read.immediate);
-    assert_eq!(read.cmd_sn, 0);
+    for without in [snack(1, 0, 0), data_out(1, 2)] {
+        let read = good(e, without.or(0, 0xc0).cmd_sn(0x0102_0304));
+        assert!(!read.immediate);
+        assert_eq!(read.cmd_sn, 0);
+    }
 }
 
 fn trap_06_highest_bit_of_byte_1(e: &mut dyn Engine) {
@@ -141,6 +143,7 @@ fn trap_06_highest_bit_of_byte_1(e: &mut dyn Engine) {
     }
     assert!(!is_field(e, clear(scsi_command(1))));
     assert!(!is_field(e, clear(login(0x80, b""))));
+    assert!(!is_field(e, clear(data_out(1, 2))));
 }
 
 fn trap_06_function_and_reason_have_seven_bits(e: &mut dyn Engine) {
@@ -233,6 +236,12 @@ fn trap_10_fields_of_each_kind(e: &mut dyn Engine) {
             && l.version_max == 2 && l.version_min == 3
             && l.isid == 0x0809_0a0b_0c0d && l.tsih == 0x0e0f && l.cid == 0x1415));
 
+    let data = good(e, numbered(data_out(0, 0)));
+    assert_eq!(common(data), (lun, all.1, 0, all.3));
+    assert!(matches!(data.request, Request::DataOut(d)
+        if d.final_bit && d.ttt == 0x1415_1617
+            && d.data_sn == 0x2425_2627 && d.buffer_offset == 0x2829_2a2b));
+
     let out = good(e, numbered(logout(0, 2)));
     assert_eq!(common(out), no_lun);
     assert!(matches!(out.request, Request::Logout(l) if l.reason == 2 && l.cid == 0x1415));
@@ -248,7 +257,13 @@ fn no_data_in_task_management_and_logout(e: &mut dyn Engine) {
     for bytes in [task_management(1, 1), logout(1, 1)] {
         assert!(is_field(e, bytes.data(b"a")));
     }
-    for bytes in [nop_out(1), scsi_command(1), login(0, b""), snack(2, 0, 0)] {
+    for bytes in [
+        nop_out(1),
+        scsi_command(1),
+        login(0, b""),
+        data_out(1, 2),
+        snack(2, 0, 0),
+    ] {
         assert!(!is_field(e, bytes.data(b"a")));
     }
 }
@@ -260,7 +275,7 @@ fn login_needs_i(e: &mut dyn Engine) {
 
 fn every_opcode(e: &mut dyn Engine) {
     for opcode in 0..=0x3f {
-        let known = [0x00, 0x01, 0x02, 0x03, 0x06, 0x10].contains(&opcode);
+        let known = [0x00, 0x01, 0x02, 0x03, 0x05, 0x06, 0x10].contains(&opcode);
         let refused = e.read(&Bytes::new(opcode, 0x80).0) == Err(Refusal::Opcode);
         assert_eq!(refused, !known, "{opcode:#x}");
     }

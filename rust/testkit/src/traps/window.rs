@@ -258,7 +258,15 @@ fn trap_23_the_session_goes_on_after_reason_0(e: &mut dyn Engine) {
 
 fn trap_24_kinds_that_are_offered(e: &mut dyn Engine) {
     e.begin_session(1, 1, 1);
-    for bytes in [login(0x87, b""), snack(1, 0, 0), snack(1, 0, 0).immediate()] {
+    for bytes in [
+        login(0x87, b""),
+        snack(1, 0, 0),
+        snack(1, 0, 0).immediate(),
+        // With a number that would be kept, and with I.
+        data_out(1, 2).cmd_sn(1),
+        data_out(1, 2).cmd_sn(1).immediate(),
+        data_out(1, 2).cmd_sn(1).data(b"abcde"),
+    ] {
         assert_eq!(e.offer(0, 1, &bytes.0), Err(Refusal::Field));
     }
     let kinds = [

@@ -13,13 +13,13 @@ checks![
     later_bytes_stay,
 ];
 
-const NUMBERS: Numbers = Numbers {
+pub(super) const NUMBERS: Numbers = Numbers {
     stat_sn: 0x1819_1a1b,
     exp_cmd_sn: 0x1c1d_1e1f,
     max_cmd_sn: 0x2021_2223,
 };
 
-fn written(e: &dyn Engine, response: Response) -> Result<[u8; HEADER_BYTES], Refusal> {
+pub(super) fn written(e: &dyn Engine, response: Response) -> Result<[u8; HEADER_BYTES], Refusal> {
     let mut out = [FILL; HEADER_BYTES];
     let answer = e.write(&mut out, NUMBERS, &response);
     if answer.is_err() {
@@ -29,7 +29,7 @@ fn written(e: &dyn Engine, response: Response) -> Result<[u8; HEADER_BYTES], Ref
 }
 
 /// A header with the numbers in their places, and these bytes besides; all else 0.
-fn header(places: &[(usize, &[u8])]) -> [u8; HEADER_BYTES] {
+pub(super) fn header(places: &[(usize, &[u8])]) -> [u8; HEADER_BYTES] {
     let mut h = [0; HEADER_BYTES];
     let numbers: Vec<u8> = (24..36).collect();
     h[24..36].copy_from_slice(&numbers);
@@ -49,6 +49,7 @@ fn scsi(overflow: bool, underflow: bool, data_segment_length: u32) -> Response {
         itt: 0x1011_1213,
         snack_tag: 0x1415_1617,
         residual: 0x2c2d_2e2f,
+        exp_data_sn: 0x2425_2627,
     }
 }
 
@@ -75,6 +76,7 @@ fn trap_11_scsi_response(e: &mut dyn Engine) {
         let wanted = header(&[
             (0, &[0x21, flags, 0x11, 0x22, 0, 0, 0x20, 0]),
             (16, &[0x10, 0x11, 0x12, 0x13, 0x14, 0x15, 0x16, 0x17]),
+            (36, &[0x24, 0x25, 0x26, 0x27]),
             (44, &[0x2c, 0x2d, 0x2e, 0x2f]),
         ]);
         assert_eq!(written(e, scsi(o, u, 8192)), Ok(wanted));
