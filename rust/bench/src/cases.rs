@@ -1,7 +1,7 @@
 //! The calls that are timed.
 
 use crate::timing::nanoseconds;
-use calls::{Engine, HEADER_BYTES, Holder, Numbers, Response, TEXT_BYTES};
+use calls::{Engine, HEADER_BYTES, Holder, Numbers, Response, TEXT_BYTES, Task};
 use std::hint::black_box;
 use testkit::Bytes;
 use testkit::pdu;
@@ -21,6 +21,9 @@ pub fn all<E: Engine + Default>() -> Vec<Case> {
             read::<E>(pdu::task_management(1, 1))
         }),
         ("read Login", || read::<E>(pdu::login(0x87, &[b'a'; 400]))),
+        ("read Data-Out", || {
+            read::<E>(pdu::data_out(3, 1536).data(&[7; 512]))
+        }),
         ("read Logout", || read::<E>(pdu::logout(1, 1))),
         ("read SNACK", || read::<E>(pdu::snack(1, 5, 6))),
         ("length of NOP-Out", || {
@@ -32,10 +35,10 @@ pub fn all<E: Engine + Default>() -> Vec<Case> {
         ("write NOP-In", || write::<E>(NOP_IN)),
         ("write SCSI Response", || write::<E>(SCSI)),
         ("write Login Response", || write::<E>(LOGIN)),
+        ("write Data-In", || write::<E>(DATA_IN)),
+        ("write R2T", || write::<E>(R2T)),
         ("offer + take", offer_take::<E>),
         ("offer 32 + take 32", offer_take_many::<E>),
-        ("send + ack", send_ack::<E>),
-        ("resend", resend::<E>),
         ("snack", snack::<E>),
         ("next StatSN", next::<E>),
         ("holder, held", || holder::<E>(9)),
@@ -52,7 +55,7 @@ const NOP_IN: Response = Response::NopIn {
     itt: 0x10,
     ttt: 0xffff_ffff,
 };
-const SCSI: Response = Response::Scsi {
+pub const SCSI: Response = Response::Scsi {
     overflow: false,
     underflow: true,
     response: 0,
@@ -61,6 +64,7 @@ const SCSI: Response = Response::Scsi {
     itt: 0x11,
     snack_tag: 0,
     residual: 512,
+    exp_data_sn: 4,
 };
 const LOGIN: Response = Response::Login {
     csg: 1,
@@ -72,6 +76,25 @@ const LOGIN: Response = Response::Login {
     itt: 0x13,
     status_class: 0,
     status_detail: 0,
+};
+
+const DATA_IN: Response = Response::DataIn {
+    final_bit: true,
+    acknowledge: true,
+    data_segment_length: 8192,
+    lun: 1 << 48,
+    itt: 0x11,
+    ttt: 0x21,
+    data_sn: 3,
+    buffer_offset: 24_576,
+};
+const R2T: Response = Response::R2t {
+    lun: 1 << 48,
+    itt: 0x11,
+    ttt: 0x21,
+    r2t_sn: 3,
+    buffer_offset: 65_536,
+    desired_data_transfer_length: 262_144,
 };
 
 fn read<E: Engine + Default>(bytes: Bytes) -> f64 {
@@ -109,15 +132,16 @@ fn write<E: Engine + Default>(response: Response) -> f64 {
 fn session<E: Engine + Default>() -> E {
     let mut engine = E::default();
     engine.begin_session(0xffff_fff0, 1, 1);
+    let task = Task::fresh_for(0x11);
     let mut out = [0; HEADER_BYTES];
     for ticket in 0..16 {
-        engine.send(0, ticket, &mut out, &SCSI).unwrap();
+        engine.send(0, ticket, &task, &mut out, &SCSI).unwrap();
     }
     engine
 }
 
 /// The connection of most calls. No caller knows it when it is compiled, so it is hidden from the optimiser.
-fn connection() -> u32 {
+pub fn connection() -> u32 {
     black_box(0)
 }
 
@@ -154,26 +178,6 @@ fn offer_take_many<E: Engine + Default>() -> f64 {
             let _ = black_box(engine.take(&mut out));
         }
         number = number.wrapping_add(32);
-    })
-}
-
-fn send_ack<E: Engine + Default>() -> f64 {
-    let mut engine = session::<E>();
-    let mut out = [0; HEADER_BYTES];
-    nanoseconds(|| {
-        if let Ok(stat_sn) = engine.send(connection(), 7, &mut out, black_box(&SCSI)) {
-            let _ = black_box(engine.acknowledge(connection(), stat_sn.wrapping_sub(15)));
-        }
-        black_box(&out);
-    })
-}
-
-fn resend<E: Engine + Default>() -> f64 {
-    let mut engine = session::<E>();
-    let mut out = [0; HEADER_BYTES];
-    nanoseconds(|| {
-        let _ = black_box(engine.resend(connection(), black_box(9), &mut out));
-        black_box(&out);
     })
 }
 

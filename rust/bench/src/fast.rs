@@ -4,14 +4,15 @@ mod keys;
 mod ledger;
 mod login;
 mod read;
-mod session;
+pub mod session;
+pub mod task;
 mod text;
 mod window;
 mod write;
 
 use calls::{
-    Engine, Holder, LoginAnswer, LogoutCounts, Numbers, Offer, Parameters, Pdu, Refusal, Response,
-    Run, Take, Window,
+    Came, DataInPdu, DataSnack, Engine, Holder, LoginAnswer, LogoutCounts, Numbers, Offer,
+    Parameters, Pdu, Refusal, Response, Run, Take, Task, TaskGiven, Window,
 };
 
 /// The hand-optimised engine.
@@ -60,10 +61,12 @@ impl Engine for Fast {
         &mut self,
         connection: u32,
         ticket: u32,
+        task: &Task,
         out: &mut [u8],
         response: &Response,
     ) -> Result<u32, Refusal> {
-        self.session.send(connection, ticket, out, response)
+        self.session
+            .send(connection, ticket, &task.into(), out, response)
     }
 
     #[inline]
@@ -77,8 +80,14 @@ impl Engine for Fast {
     }
 
     #[inline]
-    fn resend(&mut self, connection: u32, stat_sn: u32, out: &mut [u8]) -> Result<u32, Refusal> {
-        self.session.resend(connection, stat_sn, out)
+    fn resend(
+        &mut self,
+        connection: u32,
+        stat_sn: u32,
+        task: &Task,
+        out: &mut [u8],
+    ) -> Result<u32, Refusal> {
+        self.session.resend(connection, stat_sn, &task.into(), out)
     }
 
     #[inline]
@@ -94,6 +103,56 @@ impl Engine for Fast {
     #[inline]
     fn holder(&self, number: u32) -> Holder {
         self.session.holder(number)
+    }
+
+    #[inline]
+    fn task(&self, given: TaskGiven) -> Result<Task, Refusal> {
+        task::Task::make(given).map(|task| (&task).into())
+    }
+
+    #[inline]
+    fn data_in(
+        &mut self,
+        connection: u32,
+        task: &mut Task,
+        out: &mut [u8],
+        pdu: DataInPdu,
+    ) -> Result<(), Refusal> {
+        on_record(task, |task| {
+            self.session.data_in(connection, task, out, pdu)
+        })
+    }
+
+    #[inline]
+    fn r2t(
+        &mut self,
+        connection: u32,
+        task: &mut Task,
+        out: &mut [u8],
+        tag: u32,
+        length: u32,
+    ) -> Result<(), Refusal> {
+        on_record(task, |task| {
+            self.session.r2t(connection, task, out, tag, length)
+        })
+    }
+
+    #[inline]
+    fn data_out(&mut self, connection: u32, task: &mut Task, pdu: &[u8]) -> Result<Came, Refusal> {
+        on_record(task, |task| self.session.data_out(connection, task, pdu))
+    }
+
+    #[inline]
+    fn data_snack(
+        &mut self,
+        connection: u32,
+        task: &mut Task,
+        offset: u32,
+        pdu: &[u8],
+    ) -> Result<DataSnack, Refusal> {
+        on_record(task, |task| {
+            self.session.data_snack(connection, task, offset, pdu)
+        })
     }
 
     #[inline]
@@ -129,4 +188,15 @@ impl Engine for Fast {
     fn parameters(&self) -> Parameters {
         self.login.parameters()
     }
+}
+
+/// A data call on the engine's own form of a record.
+fn on_record<T>(
+    task: &mut Task,
+    call: impl FnOnce(&mut task::Task) -> Result<T, Refusal>,
+) -> Result<T, Refusal> {
+    let mut own = (&*task).into();
+    let answer = call(&mut own)?;
+    *task = (&own).into();
+    Ok(answer)
 }

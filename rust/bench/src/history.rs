@@ -1,7 +1,9 @@
 //! What a long history costs: offer, take, send and acknowledge, after more and more of them.
 
+use crate::data::GIVEN;
 use crate::timing::median;
-use calls::{Engine, HEADER_BYTES, Response};
+use bench::sessions::Session;
+use calls::{HEADER_BYTES, Response};
 use std::hint::black_box;
 use std::time::Instant;
 use testkit::pdu;
@@ -12,21 +14,20 @@ const STEPS: u32 = 500;
 const BATCHES: usize = 11;
 
 /// Nanoseconds of a step after each length of history.
-pub fn times<E: Engine + Default>() -> Vec<f64> {
-    let mut engine = E::default();
-    engine.begin_session(0, 0, 1);
+pub fn times<S: Session>() -> Vec<f64> {
+    let (mut session, task) = (S::begun(0, 0, 1), S::record(GIVEN));
     let mut played = 0;
     LENGTHS
         .iter()
         .map(|&length| {
             while played < length {
-                step(&mut engine, &mut played);
+                step(&mut session, &task, &mut played);
             }
             let batches: Vec<f64> = (0..BATCHES)
                 .map(|_| {
                     let start = Instant::now();
                     for _ in 0..STEPS {
-                        step(&mut engine, &mut played);
+                        step(&mut session, &task, &mut played);
                     }
                     start.elapsed().as_nanos() as f64 / f64::from(STEPS)
                 })
@@ -36,7 +37,7 @@ pub fn times<E: Engine + Default>() -> Vec<f64> {
         .collect()
 }
 
-/// Print the costs, a column for each engine.
+/// Print the costs, a column for each session.
 pub fn print(columns: &[(&str, Vec<f64>)]) {
     println!("ns for offer + take + send + ack after so many of them");
     let head: String = columns
@@ -53,17 +54,17 @@ pub fn print(columns: &[(&str, Vec<f64>)]) {
     }
 }
 
-fn step<E: Engine>(engine: &mut E, played: &mut u32) {
+fn step<S: Session>(session: &mut S, task: &S::Record, played: &mut u32) {
     let number = *played;
     *played += 1;
     let mut out = [0; HEADER_BYTES];
     let bytes = pdu::scsi_command(number);
-    let _ = black_box(engine.offer(0, number, &bytes.0));
-    let _ = black_box(engine.take(&mut out));
+    let _ = black_box(session.offer(0, number, &bytes.0));
+    let _ = black_box(session.take(&mut out));
     let response = Response::TaskManagement {
         response: 0,
         itt: number,
     };
-    let _ = black_box(engine.send(0, number, &mut out, &response));
-    let _ = black_box(engine.acknowledge(0, number.wrapping_add(1)));
+    let _ = black_box(session.send(0, number, task, &mut out, &response));
+    let _ = black_box(session.acknowledge(0, number.wrapping_add(1)));
 }

@@ -1,12 +1,15 @@
 //! `cargo run --release -p bench`: nanoseconds per call of every engine, side by side in one run, the median of several
-//! rounds, with ratios to the hand-optimised one; then what a long history costs.
+//! rounds, with ratios to the hand-optimised one; then what a long history and a long transfer cost.
 
 mod cases;
+mod data;
 mod history;
 mod table;
 mod timing;
+mod transfer;
 
-use bench::Fast;
+use bench::{Fast, sessions};
+use calls::Engine;
 use drawbevel::Drawbevel;
 use model::Model;
 
@@ -16,9 +19,9 @@ fn main() {
         "median of {rounds} rounds, engines in turn; lent outputs are not cleared between calls"
     );
     let mut columns = vec![
-        table::Column::new("hand-optimised", cases::all::<Fast>()),
-        table::Column::new("Drawbevel", cases::all::<Drawbevel>()),
-        table::Column::new("model", cases::all::<Model>()),
+        table::Column::new("hand-optimised", all::<Fast, sessions::Fast>()),
+        table::Column::new("Drawbevel", all::<Drawbevel, sessions::Drawbevel>()),
+        table::Column::new("model", all::<Model, sessions::Modelled>()),
     ];
     for _ in 0..rounds {
         for column in &mut columns {
@@ -28,8 +31,21 @@ fn main() {
     table::print(&columns);
     println!();
     history::print(&[
-        ("hand-optimised", history::times::<Fast>()),
-        ("Drawbevel", history::times::<Drawbevel>()),
-        ("model", history::times::<Model>()),
+        ("hand-optimised", history::times::<sessions::Fast>()),
+        ("Drawbevel", history::times::<sessions::Drawbevel>()),
+        ("model", history::times::<sessions::Modelled>()),
     ]);
+    println!();
+    transfer::print(&[
+        ("hand-optimised", transfer::times::<sessions::Fast>()),
+        ("Drawbevel", transfer::times::<sessions::Drawbevel>()),
+        ("model", transfer::times::<sessions::Modelled>()),
+    ]);
+}
+
+/// The calls without a record, then those with one.
+fn all<E: Engine + Default, S: sessions::Session>() -> Vec<cases::Case> {
+    let mut all = cases::all::<E>();
+    all.extend(data::all::<S>());
+    all
 }

@@ -1,14 +1,15 @@
 //! Reading by whole words.
 
 use calls::{
-    Data, HEADER_BYTES, Login, Logout, NopOut, Pdu, Refusal, Request, ScsiCommand, Snack,
+    Data, DataOut, HEADER_BYTES, Login, Logout, NopOut, Pdu, Refusal, Request, ScsiCommand, Snack,
     TaskManagement,
 };
 
 const NO_TAG: u32 = 0xffff_ffff;
 const MAX_DATA: u32 = 8192;
 /// Bit n is set where opcode n is read here.
-const OPCODES: u64 = 1 << 0x00 | 1 << 0x01 | 1 << 0x02 | 1 << 0x03 | 1 << 0x06 | 1 << 0x10;
+const OPCODES: u64 =
+    1 << 0x00 | 1 << 0x01 | 1 << 0x02 | 1 << 0x03 | 1 << 0x05 | 1 << 0x06 | 1 << 0x10;
 
 type Header = [u8; HEADER_BYTES];
 
@@ -119,6 +120,16 @@ pub fn read(input: &[u8]) -> Result<Pdu, Refusal> {
             };
             Ok(pdu(h, data, 0, Request::Login(login)))
         }
+        0x05 if h[4] != 0 => Err(Refusal::Field),
+        0x05 => {
+            let data_out = DataOut {
+                final_bit: flags & 0x80 != 0,
+                ttt: be32(h, 20),
+                data_sn: be32(h, 36),
+                buffer_offset: be32(h, 40),
+            };
+            Ok(without_number(h, data, Request::DataOut(data_out)))
+        }
         0x06 if !(plain(h) && no_data && flags & 0x7f <= 2) => Err(Refusal::Field),
         0x06 => {
             let logout = Logout {
@@ -150,6 +161,20 @@ fn pdu(h: &Header, data: Data, lun: u64, request: Request) -> Pdu {
     }
 }
 
+/// A PDU of a kind that has neither I nor CmdSN.
+#[inline]
+fn without_number(h: &Header, data: Data, request: Request) -> Pdu {
+    Pdu {
+        immediate: false,
+        cmd_sn: 0,
+        lun: be64(h, 8),
+        itt: be32(h, 16),
+        exp_stat_sn: be32(h, 28),
+        request,
+        data,
+    }
+}
+
 #[inline]
 fn snack(h: &Header, data: Data) -> Result<Pdu, Refusal> {
     let (kind, itt, ttt) = (h[1] & 0x0f, be32(h, 16), be32(h, 20));
@@ -163,20 +188,13 @@ fn snack(h: &Header, data: Data) -> Result<Pdu, Refusal> {
     if !(plain(h) && good) {
         return Err(Refusal::Field);
     }
-    Ok(Pdu {
-        immediate: false,
-        cmd_sn: 0,
-        lun: be64(h, 8),
-        itt,
-        exp_stat_sn: be32(h, 28),
-        request: Request::Snack(Snack {
-            kind,
-            ttt,
-            beg_run: be32(h, 40),
-            run_length: be32(h, 44),
-        }),
-        data,
-    })
+    let snack = Snack {
+        kind,
+        ttt,
+        beg_run: be32(h, 40),
+        run_length: be32(h, 44),
+    };
+    Ok(without_number(h, data, Request::Snack(snack)))
 }
 
 /// What an offer needs of a PDU: whether it is read, of a kind that is offered, and immediate.

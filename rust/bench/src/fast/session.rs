@@ -2,11 +2,12 @@
 
 use super::ledger::Ledger;
 use super::read::{be32, offered, read};
+use super::task::Task;
 use super::window::CommandWindow;
-use super::write::{header, judge};
+use super::write::{MAX_DATA, header, judge};
 use calls::{
-    HEADER_BYTES, Holder, LogoutCounts, Numbers, Offer, Refusal, Request, Response, Run, Take,
-    Window,
+    Came, DataInPdu, DataSnack, HEADER_BYTES, Holder, LogoutCounts, Numbers, Offer, Refusal,
+    Request, Response, Run, Take, Window,
 };
 
 #[derive(Clone)]
@@ -113,6 +114,7 @@ impl Session {
         &mut self,
         connection: u32,
         ticket: u32,
+        task: &Task,
         out: &mut [u8],
         response: &Response,
     ) -> Result<u32, Refusal> {
@@ -122,8 +124,12 @@ impl Session {
         let window = self.window();
         let ledger = self.ledger(connection)?;
         judge(response)?;
+        if matches!(response, Response::DataIn { .. } | Response::R2t { .. }) {
+            return Err(Refusal::Field);
+        }
+        let status = task.status(response)?;
         let stored = !matches!(
-            response,
+            status,
             Response::NopIn {
                 itt: 0xffff_ffff,
                 ..
@@ -138,7 +144,7 @@ impl Session {
             exp_cmd_sn: window.exp_cmd_sn,
             max_cmd_sn: window.max_cmd_sn,
         };
-        *out = header(numbers, response);
+        *out = header(numbers, &status);
         if stored {
             ledger.store(out, ticket);
         }
@@ -166,6 +172,7 @@ impl Session {
         &mut self,
         connection: u32,
         stat_sn: u32,
+        task: &Task,
         out: &mut [u8],
     ) -> Result<u32, Refusal> {
         let Some(out) = out.first_chunk_mut::<HEADER_BYTES>() else {
@@ -177,6 +184,71 @@ impl Session {
         if level == 0 {
             return Err(Refusal::Snack);
         }
-        ledger.resend(stat_sn, numbers, out)
+        let ticket = ledger.resend(stat_sn, numbers, out)?;
+        task.renew(out);
+        Ok(ticket)
+    }
+
+    #[inline]
+    fn numbers(&self, connection: u32) -> Result<Numbers, Refusal> {
+        Ok(Numbers {
+            stat_sn: self.next_stat_sn(connection)?,
+            exp_cmd_sn: self.window.exp_cmd_sn(),
+            max_cmd_sn: self.window.max_cmd_sn(),
+        })
+    }
+
+    #[inline]
+    pub fn data_in(
+        &self,
+        connection: u32,
+        task: &mut Task,
+        out: &mut [u8],
+        pdu: DataInPdu,
+    ) -> Result<(), Refusal> {
+        let Some(out) = out.first_chunk_mut::<HEADER_BYTES>() else {
+            return Err(Refusal::Buffer);
+        };
+        let numbers = self.numbers(connection)?;
+        if pdu.data_segment_length > MAX_DATA {
+            return Err(Refusal::TooLong);
+        }
+        *out = header(numbers, &task.data_in(pdu)?);
+        Ok(())
+    }
+
+    #[inline]
+    pub fn r2t(
+        &self,
+        connection: u32,
+        task: &mut Task,
+        out: &mut [u8],
+        tag: u32,
+        length: u32,
+    ) -> Result<(), Refusal> {
+        let Some(out) = out.first_chunk_mut::<HEADER_BYTES>() else {
+            return Err(Refusal::Buffer);
+        };
+        let numbers = self.numbers(connection)?;
+        *out = header(numbers, &task.r2t(tag, length)?);
+        Ok(())
+    }
+
+    #[inline]
+    pub fn data_out(&self, connection: u32, task: &mut Task, pdu: &[u8]) -> Result<Came, Refusal> {
+        self.next_stat_sn(connection)?;
+        task.data_out(pdu)
+    }
+
+    #[inline]
+    pub fn data_snack(
+        &self,
+        connection: u32,
+        task: &mut Task,
+        offset: u32,
+        pdu: &[u8],
+    ) -> Result<DataSnack, Refusal> {
+        self.next_stat_sn(connection)?;
+        task.data_snack(self.level, offset, pdu)
     }
 }

@@ -2,7 +2,7 @@
 
 use calls::{HEADER_BYTES, Numbers, Refusal, Response};
 
-const MAX_DATA: u32 = 8192;
+pub const MAX_DATA: u32 = 8192;
 
 type Header = [u8; HEADER_BYTES];
 
@@ -37,6 +37,10 @@ pub fn judge(response: &Response) -> Result<(), Refusal> {
         Response::NopIn {
             data_segment_length,
             ..
+        }
+        | Response::DataIn {
+            data_segment_length,
+            ..
         } => (data_segment_length, true),
         Response::Scsi {
             data_segment_length,
@@ -67,6 +71,7 @@ pub fn judge(response: &Response) -> Result<(), Refusal> {
 #[inline]
 pub fn header(numbers: Numbers, response: &Response) -> Header {
     let mut h = [0; HEADER_BYTES];
+    let mut stat_sn = numbers.stat_sn;
     let (opcode, flags, two, three, length) = match *response {
         Response::NopIn {
             data_segment_length,
@@ -88,9 +93,11 @@ pub fn header(numbers: Numbers, response: &Response) -> Header {
             itt,
             snack_tag,
             residual,
+            exp_data_sn,
         } => {
             put32(&mut h, 16, itt);
             put32(&mut h, 20, snack_tag);
+            put32(&mut h, 36, exp_data_sn);
             put32(&mut h, 44, residual);
             let flags = 0x80 | u8::from(overflow) << 2 | u8::from(underflow) << 1;
             (0x21, flags, response, status, data_segment_length)
@@ -117,6 +124,27 @@ pub fn header(numbers: Numbers, response: &Response) -> Header {
             let flags = u8::from(transit) << 7 | csg << 2 | nsg;
             (0x23, flags, 0, 0, data_segment_length)
         }
+        Response::DataIn {
+            final_bit,
+            acknowledge,
+            data_segment_length,
+            lun,
+            itt,
+            ttt,
+            data_sn,
+            buffer_offset,
+        } => {
+            put64(&mut h, 8, lun);
+            put64(&mut h, 16, u64::from(itt) << 32 | u64::from(ttt));
+            put64(
+                &mut h,
+                36,
+                u64::from(data_sn) << 32 | u64::from(buffer_offset),
+            );
+            stat_sn = 0;
+            let flags = u8::from(final_bit) << 7 | u8::from(acknowledge) << 6;
+            (0x25, flags, 0, 0, data_segment_length)
+        }
         Response::Logout {
             response,
             itt,
@@ -128,6 +156,21 @@ pub fn header(numbers: Numbers, response: &Response) -> Header {
             put16(&mut h, 42, time2retain);
             (0x26, 0x80, response, 0, 0)
         }
+        Response::R2t {
+            lun,
+            itt,
+            ttt,
+            r2t_sn,
+            buffer_offset,
+            desired_data_transfer_length,
+        } => {
+            put64(&mut h, 8, lun);
+            put64(&mut h, 16, u64::from(itt) << 32 | u64::from(ttt));
+            put32(&mut h, 36, r2t_sn);
+            put32(&mut h, 40, buffer_offset);
+            put32(&mut h, 44, desired_data_transfer_length);
+            (0x31, 0x80, 0, 0, 0)
+        }
         Response::Reject { reason } => {
             put32(&mut h, 16, 0xffff_ffff);
             (0x3f, 0x80, reason, 0, 48)
@@ -135,7 +178,7 @@ pub fn header(numbers: Numbers, response: &Response) -> Header {
     };
     put32(&mut h, 0, u32::from_be_bytes([opcode, flags, two, three]));
     put32(&mut h, 4, length);
-    put32(&mut h, 24, numbers.stat_sn);
+    put32(&mut h, 24, stat_sn);
     put32(&mut h, 28, numbers.exp_cmd_sn);
     put32(&mut h, 32, numbers.max_cmd_sn);
     h
