@@ -99,17 +99,17 @@ pub fn put(h: &mut [u8], at: usize, v: u64)
 }
 
 // The four bytes of v, the highest first.
-fn four_bytes_of(v: u32) -> [u8; 4]
-    ensures { λ r. ⌜ r ≡ bytesOf 4 v ⌝ }
+fn four_bytes_of(n: u32) -> [u8; 4]
+    ensures { λ r. ⌜ r ≡ bytesOf 4 n ⌝ }
 {
-    let v1 = v / 256;
-    let v2 = v1 / 256;
-    let v3 = v2 / 256;
+    let n1 = n / 256;
+    let n2 = n1 / 256;
+    let n3 = n2 / 256;
     [
-        (v3 % 256) as u8,
-        (v2 % 256) as u8,
-        (v1 % 256) as u8,
-        (v % 256) as u8,
+        (n3 % 256) as u8,
+        (n2 % 256) as u8,
+        (n1 % 256) as u8,
+        (n % 256) as u8,
     ]
 }
 
