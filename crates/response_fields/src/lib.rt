@@ -108,7 +108,7 @@ fn login_response(x: LoginResponse) -> OwnFields
     }
 }
 
-fn data_in(x: DataIn) -> OwnFields
+pub fn data_in(x: DataIn) -> OwnFields
     ensures { λ r. ⌜ ((n : Numbers) → headerBytes (R.DataIn x) n ≡ ownBytes r n) ⌝ }
 {
     let flags = weight(x.is_final, 0x80) + weight(x.acknowledge, 0x40);
@@ -139,7 +139,7 @@ fn logout_response(x: LogoutResponse) -> OwnFields
     }
 }
 
-fn r2t(x: R2t) -> OwnFields
+pub fn r2t(x: R2t) -> OwnFields
     ensures { λ r. ⌜ ((n : Numbers) → headerBytes (R.R2t x) n ≡ ownBytes r n) ⌝ }
 {
     let first = four(0x31, 0x80, 0, 0);

@@ -1,8 +1,8 @@
 // What a session sends for a task's data: Data-In, and R2Ts that ask the initiator for data. No call has a requirement of its caller: they
 // refuse. They change nothing in the session; what is new of the task's record is in the answer.
 use refusal::Refusal;
+use response_fields::OwnFields;
 use response_header::Numbers;
-use response_header::Response;
 use response_header::judge::too_long;
 use session_state::Reached;
 use session_state::Session;
@@ -18,6 +18,10 @@ ghost use mathlib.Core.Path.{_≡_};
 ghost use mathlib.Core.List.{List};
 ghost use Prim.Native.Nat.{ℕ, _≤_};
 ghost use lib.ListN.{length};
+ghost use Rattle.response_header.specs.declared.Numbers.{Numbers};
+ghost use Rattle.response_header.specs.declared.Response.{Response};
+ghost use Rattle.response_header.specs.Response.{headerBytes};
+ghost use Rattle.response_fields.specs.WholeNumbers.{ownBytes};
 ghost use Rattle.task.specs.Agree.{recordOf, dataInStepOf, r2tStepOf, R2TStays};
 ghost use Rattle.window.specs.Agree.{Commands};
 ghost use Rattle.ledger.specs.Agree.{Statuses};
@@ -26,10 +30,10 @@ ghost use Rattle.session_state.specs.Agree.{Did, state};
 ghost use Rattle.session_state.specs.Transfer.{transferred};
 ghost use Rattle.session_data_in.specs.Written.{IsWritten};
 
-// Writes a header with this StatSN and the window's two numbers into the first 48 bytes of out.
-fn write_header(w: Window, stat_sn: u32, r: Response, out: &mut [u8])
+// Writes a header of these fields, with this StatSN and the window's two numbers, into the first 48 bytes of out.
+fn write_header(w: Window, stat_sn: u32, o: OwnFields, out: &mut [u8])
     requires { ⌜ 48 ≤ length (now out) ⌝ }
-    ensures { λ _. ⌜ IsWritten w «stat_sn» r (now (out .entry)) (now (out .exit)) ⌝ }
+    ensures { λ _. ⌜ ((r : Response) → ((n : Numbers) → headerBytes r n ≡ ownBytes o n) → IsWritten w «stat_sn» r (now (out .entry)) (now (out .exit))) ⌝ }
 {
     let exp_cmd_sn = window::exp_cmd_sn(w);
     let max_cmd_sn = window::max_cmd_sn(w);
@@ -38,7 +42,6 @@ fn write_header(w: Window, stat_sn: u32, r: Response, out: &mut [u8])
         exp_cmd_sn: exp_cmd_sn,
         max_cmd_sn: max_cmd_sn,
     };
-    let o = response_fields::own_fields(r);
     response_writer::place(out, 0, o, n);
 }
 
@@ -75,7 +78,8 @@ pub fn data_in(
                     sequence,
                 } => {
                     let w = s.window;
-                    write_header(w, l.next, Response::DataIn(header), out);
+                    let own = response_fields::data_in(header);
+                    write_header(w, l.next, own, out);
                     DataInAnswer::Sent {
                         header: header,
                         numbering: numbering,
@@ -119,7 +123,8 @@ pub fn r2t(
                 open_count,
             } => {
                 let w = s.window;
-                write_header(w, l.next, Response::R2t(header), out);
+                let asks = response_fields::r2t(header);
+                write_header(w, l.next, asks, out);
                 R2tAnswer::Sent {
                     header: header,
                     numbering: numbering,

@@ -2,6 +2,7 @@
 use Prim.Native.Nat.{_≤_}
 use mathlib.Core.Path.{refl, sym, _∙_}
 use borrow.Author.Needs.{needs}
+use Rattle.response_header.specs.declared.Response.the-variants as R
 use Rattle.book.specs.Book.{outputs}
 use Rattle.session_state.specs.Agree.{state}
 use Rattle.session_state.proofs.Steps.{refusing, lend-short, lend-long, reach-none, reach-closed, open-at, reach-open}
@@ -61,9 +62,12 @@ returns-5 c k ss ts es =
     data-in-eq b _ _ _ _ _ _ _ ∙ lend-long b o _ (reached .before .if1 .left) ∙ reach-open b (a .conn) o _ (v .book) (v .near) (v .is)
     ∙ data-in-refused b o (v .book) (a .length) (v .agrees .longest) short _ _ _ (rw (c .before .f .given .1) at (asked .data-in .ensures ts es)))
 
+write-header-requires : tie.Need-write-header-requires
+write-header-requires c κs = c .before .before .before .before .before .before .before .before .before .before .before .before .before .before .if1 .left
+
 returns-6 : tie.Need-returns-6
 returns-6 c k ss ts es =
-    let named = c .before .before .before .before .before .before in
+    let named = c .before .before .before .before .before .before .before in
     let asked = named .before .before in
     let tested = asked .before in
     let reached = tested .before .before .before .before .before .before in
@@ -71,7 +75,7 @@ returns-6 c k ss ts es =
     let o = outputs (a .out .now) in
     let i = rw (tested .before .before .before .before .l .given .1) at (reached .reach .ensures) in
     let short = rw (tested .before .before .longest-of .ensures) at (sym (tested .before .too-long .ensures) ∙ tested .if2 .left) in
-    let w = c .before .before .write-header .ensures in
+    let w = c .before .before .write-header .ensures (R.DataIn _) (c .before .before .before .before .data-in2 .ensures) in
     as-written _ _ _ _ _ (w .keeps) (λ b g.
     let v = open-at (state (a .s) k ss) b (a .conn) _ g i in
     data-in-eq b _ _ _ _ _ _ _ ∙ lend-long b o _ (reached .before .if1 .left) ∙ reach-open b (a .conn) o _ (v .book) (v .near) (v .is)
@@ -82,5 +86,5 @@ pub data-in-spec : {M : Type 1} → statement M
 data-in-spec =
     tie.close (tie.spec
     returns (λ c κs. search needs) (λ c. search needs) (λ c. search needs) (λ c. search needs) (λ c κs. search needs) (λ c κs. search needs)
-    returns-2 (λ c κs. search needs) (λ c. search needs) (λ c. search needs) (λ c κs. search needs) returns-3 returns-4 returns-5
+    returns-2 (λ c κs. search needs) (λ c. search needs) (λ c. search needs) (λ c κs. search needs) write-header-requires returns-3 returns-4 returns-5
     (λ c. search needs) returns-6)

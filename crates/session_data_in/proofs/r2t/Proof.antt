@@ -2,6 +2,7 @@
 use Prim.Native.Nat.{_≤_}
 use mathlib.Core.Path.{refl, _∙_}
 use borrow.Author.Needs.{needs}
+use Rattle.response_header.specs.declared.Response.the-variants as R
 use Rattle.book.specs.Book.{outputs}
 use Rattle.session_state.specs.Agree.{state}
 use Rattle.session_state.proofs.Steps.{refusing, lend-short, lend-long, reach-none, reach-closed, open-at, reach-open}
@@ -47,15 +48,18 @@ returns-4 c =
       rw (c .before .f .given .1) at (asked .r2t .ensures .stays),
     )
 
+write-header-requires : tie.Need-write-header-requires
+write-header-requires c κs = c .before .before .before .before .before .before .before .before .before .before .before .before .before .if1 .left
+
 returns-5 : tie.Need-returns-5
 returns-5 c =
-    let named = c .before .before .before .before .before .before in
+    let named = c .before .before .before .before .before .before .before in
     let asked = named .before .before in
     let reached = asked .before .before .before .before .before .before in
     let a = reached .before .before .before .args in
     let o = outputs (a .out .now) in
     let i = rw (asked .before .before .before .before .l .given .1) at (reached .reach .ensures) in
-    let w = c .before .before .write-header .ensures in (
+    let w = c .before .before .write-header .ensures (R.R2t _) (c .before .before .before .before .r2t2 .ensures) in (
       λ k ss. as-written _ _ _ _ _ (w .keeps) (λ b g.
           let v = open-at (state (a .s) k ss) b (a .conn) _ g i in
           r2t-eq b _ _ _ _ _ _ ∙ lend-long b o _ (reached .before .if1 .left) ∙ reach-open b (a .conn) o _ (v .book) (v .near) (v .is)
@@ -68,4 +72,4 @@ pub r2t-spec : {M : Type 1} → statement M
 r2t-spec =
     tie.close (tie.spec
     returns (λ c κs. search needs) (λ c. search needs) (λ c. search needs) (λ c. search needs) (λ c κs. search needs) (λ c. search needs)
-    (λ c. search needs) (λ c κs. search needs) returns-2 returns-3 returns-4 (λ c. search needs) returns-5)
+    (λ c. search needs) (λ c κs. search needs) write-header-requires returns-2 returns-3 returns-4 (λ c. search needs) returns-5)

@@ -12,20 +12,20 @@ use Rattle.session_data_in.proofs.write_header.Tie as tie
 
 returns : tie.Need-returns
 unfolding written
-returns c =
-    let own = c .before .before .before .before in
-    let e = own .before .before .exp-cmd-sn in
-    let m = own .before .max-cmd-sn in
-    let start = own .before .before .before .before in
+returns c r q =
+    let m = c .before .before .before .before in
+    let e = m .before in
+    let start = e .before .before in
     let l = start .args .out .now in
-    let n : Numbers = record { «stat_sn» = start .args .stat-sn; «exp_cmd_sn» = e .result; «max_cmd_sn» = m .result } in
-    let h = ownBytes (own .own-fields .result) n in
-    let size = length-own (own .own-fields .result) n in
+    let o = start .args .o in
+    let n : Numbers = record { «stat_sn» = start .args .stat-sn; «exp_cmd_sn» = e .exp-cmd-sn .result; «max_cmd_sn» = m .max-cmd-sn .result } in
+    let h = ownBytes o n in
+    let size = length-own o n in
     rw (c .before .before .place .ensures ∙ front l h size) (record {
-      header = λ k b g. rw (← (e .ensures k b g), ← (m .ensures k b g), own .own-fields .ensures n);
+      header = λ k b g. rw (← (e .exp-cmd-sn .ensures k b g), ← (m .max-cmd-sn .ensures k b g), q n);
       keeps = record { size = headed-size h l size (start .pre); rest = headed-rest h l size };
     })
 
 pub write-header-spec : {M : Type 1} → statement M
 write-header-spec =
-    tie.close (tie.spec (λ c κs. search needs) (λ c κs. search needs) (λ c κs. search needs) (λ c κs. search needs) (λ c. search needs) returns)
+    tie.close (tie.spec (λ c κs. search needs) (λ c κs. search needs) (λ c κs. search needs) (λ c. search needs) returns)
