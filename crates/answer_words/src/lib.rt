@@ -57,6 +57,13 @@ pub fn refused(f: Refusal) -> [u32; 4]
     [refusal::number_of(f) as u32, 0, 0, 0]
 }
 
+// A refusal by its number.
+pub fn refused_by(number: u32) -> [u32; 4]
+    ensures { λ w. ⌜ w ≡ answerWords (Answer.refused number) ⌝ }
+{
+    [number, 0, 0, 0]
+}
+
 // An answer of one value at most, which goes back in a register.
 pub fn pack(answer: u32, value: u32) -> u64
     ensures { λ r. ⌜ packed r ≡ answer ∷ value ∷ 0 ∷ 0 ∷ [] ⌝ }

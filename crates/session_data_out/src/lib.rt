@@ -57,6 +57,13 @@ fn data_out_in(
     task_out::data_out(t, tags, ends, initiator_task_tag, p, length)
 }
 
+// The numbers of refusals.
+const FIELD: u32 = 3;
+
+const NO_CONN: u32 = 7;
+
+const CLOSED: u32 = 8;
+
 // Reads a PDU that should be a Data-Out for a task: reading's refusals, FIELD for another kind, then FIELD as the task's record has it.
 fn read_data_out(
     limits: Limits,
@@ -70,10 +77,10 @@ fn read_data_out(
 {
     let f = refusal_before_field(pdu, limits);
     if f != 0 {
-        return DataOutAnswer::Refused(refusal_of(f));
+        return DataOutAnswer::Refused(f as u32);
     }
     if (pdu[0] % 64 != 0x05) | !data_out_ok(pdu) {
-        return DataOutAnswer::Refused(Refusal::Field);
+        return DataOutAnswer::Refused(FIELD);
     }
     data_out_in(t, tags, ends, pdu)
 }
@@ -92,8 +99,8 @@ pub fn data_out(
         (state s k ss) (transferred (dataOutStepOf t (now (tags .entry)) (now (ends .entry)) r)) noOutputs (state s k ss)) ⌝ }
 {
     match reach(s, conn) {
-        Reached::NoConn => DataOutAnswer::Refused(Refusal::NoConn),
-        Reached::Closed => DataOutAnswer::Refused(Refusal::Closed),
+        Reached::NoConn => DataOutAnswer::Refused(NO_CONN),
+        Reached::Closed => DataOutAnswer::Refused(CLOSED),
         Reached::Open(_) => {
             let limits = limits_of(s, conn);
             read_data_out(limits, t, tags, ends, pdu)

@@ -99,7 +99,7 @@ pub record R2TDone (t : Task) (tag len : ℕ) (tags ends : List ℕ) (r : R2tAns
   pub stays : R2TStays r tags ends tags' ends'
 
 abbrev pub dataOutStepOf : Task → (tags ends : List ℕ) → DataOutAnswer → Step
-dataOutStepOf t ts es (O.Refused f) = refuse (number f) (recordOf t ts es)
+dataOutStepOf t ts es (O.Refused n) = refuse n (recordOf t ts es)
 dataOutStepOf t ts es (O.Came o n s i k) = step (came o n k) (recordOf (withDataOut t s i k) ts es)
 
 abbrev pub dataSnackStepOf : Task → (tags ends : List ℕ) → DataSnackAnswer → Step

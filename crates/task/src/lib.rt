@@ -64,7 +64,8 @@ pub enum R2tAnswer {
 
 // Where the data lies and how long it is, and what is new of the record.
 pub enum DataOutAnswer {
-    Refused(Refusal),
+    // The refusal's number, which goes back in a register.
+    Refused(u32),
     Came {
         offset: u32,
         count: u32,

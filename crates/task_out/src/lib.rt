@@ -20,6 +20,9 @@ ghost use Rattle.task_book.specs.Steps.{r2tOk, dataOutOk, dataOutStep};
 ghost use Rattle.task.specs.Agree.{recordOf, R2TDone, dataOutStepOf};
 ghost use Rattle.task_out.specs.R2T.{R2TFits, Opened, R2TSent};
 
+// The number of FIELD.
+const FIELD: u32 = 3;
+
 // The open R2Ts that a record holds at most.
 const MOST_OPEN: u32 = 8;
 
@@ -120,11 +123,11 @@ pub fn data_out(
     let first = t.first_open;
     let count = t.open_count;
     if count == 0 {
-        return DataOutAnswer::Refused(Refusal::Field);
+        return DataOutAnswer::Refused(FIELD);
     }
     let oldest = (first % MOST_OPEN) as usize;
     if !data_out_ok(t, tags[oldest], ends[oldest], initiator_task_tag, p, length) {
-        return DataOutAnswer::Refused(Refusal::Field);
+        return DataOutAnswer::Refused(FIELD);
     }
     let s = t.data_out;
     let offset = p.buffer_offset;

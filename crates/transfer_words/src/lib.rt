@@ -145,8 +145,8 @@ pub fn data_out(
     let s = load(n, m);
     let t = task_words::load(task, wide);
     match session_data_out::data_out(s, conn, t, tags, ends, pdu) {
-        DataOutAnswer::Refused(f) => {
-            *answer = answer_words::refused(f);
+        DataOutAnswer::Refused(number) => {
+            *answer = answer_words::refused_by(number);
         }
         DataOutAnswer::Came {
             offset,

@@ -24,8 +24,8 @@ returns-2 c =
     out-refused (a .t) (a .tags .now) (a .ends .now) (a .initiator-task-tag) (a .p) (a .length) (omega (arith, c .before .before .before .before .if1 .left))
     (ok .result) (ok .ensures (a .tags .now) (a .ends .now)) (not-true (ok .result) (c .if2 .taken))
 
-add-t32 : tie.Need-add-t32
-add-t32 c =
+add-t30 : tie.Need-add-t30
+add-t30 c =
     let e = c .before .before .before in
     let a = e .before .before .before .before .before .args in
     let ok = e .before .data-out-ok in
@@ -55,4 +55,4 @@ pub data-out-spec : {M : Type 1} → statement M
 data-out-spec =
     tie.close (tie.spec
     returns (λ c. search needs) (λ c. search needs) (λ c. search needs) (λ c. search needs) (λ c. search needs) (λ c κs. search needs) returns-2
-    (λ c. search needs) (λ c. search needs) (λ c. search needs) (λ c. search needs) add-t32 returns-3 returns-4)
+    (λ c. search needs) (λ c. search needs) (λ c. search needs) (λ c. search needs) add-t30 returns-3 returns-4)
