@@ -64,7 +64,8 @@ of-data-out : (P : Step → Type 0) (f : DataOut → Step) (d : Step) (s : List 
 unfolding requestOf
 of-data-out P f d s op a o = go (eqb op 0x00) (eqb op 0x01) (eqb op 0x02) (eqb op 0x03) (eqb op 0x05) (eqb op 0x06)
   where
-    go : (t u v w y z : Bool) → P (ifDataOut f d (pick t (Q.NopOut (nopOutOf s)) (pick u (Q.ScsiCommand (scsiCommandOf s)) (pick v (Q.TaskManagement (taskManagementOf s))
+    go : (t u v w y z : Bool)
+        → P (ifDataOut f d (pick t (Q.NopOut (nopOutOf s)) (pick u (Q.ScsiCommand (scsiCommandOf s)) (pick v (Q.TaskManagement (taskManagementOf s))
         (pick w (Q.Login (loginOf s)) (pick y (Q.DataOut (dataOutOf s)) (pick z (Q.Logout (logoutOf s)) (Q.Snack (snackOf s)))))))))
     go true u v w y z = o
     go false true v w y z = o
@@ -78,7 +79,8 @@ of-snack : (P : Step → Type 0) (f : Snack → Step) (d : Step) (s : List ℕ) 
 unfolding requestOf
 of-snack P f d s op a o = go (eqb op 0x00) (eqb op 0x01) (eqb op 0x02) (eqb op 0x03) (eqb op 0x05) (eqb op 0x06)
   where
-    go : (t u v w y z : Bool) → P (ifSnack f d (pick t (Q.NopOut (nopOutOf s)) (pick u (Q.ScsiCommand (scsiCommandOf s)) (pick v (Q.TaskManagement (taskManagementOf s))
+    go : (t u v w y z : Bool)
+        → P (ifSnack f d (pick t (Q.NopOut (nopOutOf s)) (pick u (Q.ScsiCommand (scsiCommandOf s)) (pick v (Q.TaskManagement (taskManagementOf s))
         (pick w (Q.Login (loginOf s)) (pick y (Q.DataOut (dataOutOf s)) (pick z (Q.Logout (logoutOf s)) (Q.Snack (snackOf s)))))))))
     go true u v w y z = o
     go false true v w y z = o
@@ -92,7 +94,8 @@ transfer-moves : (b : Book) (c : ℕ) (x : Record) (d : Transfer) (a : T.Answer)
     → Moved (H.stepOf x (dataCallOf (b .given .level) d)) a x'
 unfolding transferBy movedBy pduOf
 transfer-moves b c x (dataIn f k n o) a x' =
-    by-lend P b o _ (λ e. absurd (unmoved e)) (λ long. by-reach P b c o _ (λ e. absurd (unmoved e)) (λ e. absurd (unmoved e)) (λ l q e. go (tooLong (q .longest) n) q))
+    by-lend P b o _ (λ e. absurd (unmoved e))
+    (λ long. by-reach P b c o _ (λ e. absurd (unmoved e)) (λ e. absurd (unmoved e)) (λ l q e. go (tooLong (q .longest) n) q))
   where
     P : Step → Type 0
     P s = s .answer ≡ moved a x' → Moved (T.dataInStep x f k n) a x'
@@ -101,7 +104,8 @@ transfer-moves b c x (dataIn f k n o) a x' =
     go true q e = absurd (unmoved e)
     go false q e = moved-is (T.dataInStep x f k n) a x' e
 transfer-moves b c x (r2t t n o) a x' =
-    by-lend P b o _ (λ e. absurd (unmoved e)) (λ long. by-reach P b c o _ (λ e. absurd (unmoved e)) (λ e. absurd (unmoved e)) (λ l q e. moved-is (T.r2tStep x t n) a x'))
+    by-lend P b o _ (λ e. absurd (unmoved e))
+    (λ long. by-reach P b c o _ (λ e. absurd (unmoved e)) (λ e. absurd (unmoved e)) (λ l q e. moved-is (T.r2tStep x t n) a x'))
   where
     P : Step → Type 0
     P s = s .answer ≡ moved a x' → Moved (T.r2tStep x t n) a x'
@@ -117,7 +121,8 @@ transfer-moves b c x (dataOut p) a x' =
     go : (q : OpenConnection) (y : Read.Answer) → readPdu (q .limits) p ≡ y → P (dataOutBy b x q y)
     go q (Read.refused n) r = λ e. absurd (unmoved e)
     go q (Read.got u) r =
-        rw (got-all (q .limits) p u r .fields) (of-data-out P (λ w. movedBy b noOutputs q (T.dataOutStep x (beAt p 16 4) w (dataLengthOf p))) (step (refused 3) noOutputs b) p (opcodeOf p)
+        rw (got-all (q .limits) p u r .fields)
+        (of-data-out P (λ w. movedBy b noOutputs q (T.dataOutStep x (beAt p 16 4) w (dataLengthOf p))) (step (refused 3) noOutputs b) p (opcodeOf p)
         (moved-is s a x') (λ e. absurd (unmoved e)))
 transfer-moves b c x (dataSnack f p) a x' =
     by-reach P b c noOutputs _ (λ e. absurd (unmoved e)) (λ e. absurd (unmoved e)) (λ l q e. go q (readPdu (q .limits) p) refl)
@@ -131,7 +136,8 @@ transfer-moves b c x (dataSnack f p) a x' =
     go : (q : OpenConnection) (y : Read.Answer) → readPdu (q .limits) p ≡ y → P (dataSnackBy b x f q y)
     go q (Read.refused n) r = λ e. absurd (unmoved e)
     go q (Read.got u) r =
-        rw (got-all (q .limits) p u r .fields) (of-snack P (λ w. movedBy b noOutputs q (T.dataSnackStep x (b .given .level) (beAt p 16 4) f w)) (step (refused 3) noOutputs b) p (opcodeOf p)
+        rw (got-all (q .limits) p u r .fields)
+        (of-snack P (λ w. movedBy b noOutputs q (T.dataSnackStep x (b .given .level) (beAt p 16 4) f w)) (step (refused 3) noOutputs b) p (opcodeOf p)
         (moved-is s a x') (λ e. absurd (unmoved e)))
 
 transferred : (b : Book) (c : ℕ) (x : Record) (d : Transfer) (y : Choice) → bookStep b (transfer c x d) y .answer ≡ transferBy b c x d .answer
@@ -170,7 +176,8 @@ bears r n rest = refl
 unsent : {m n : ℕ} → refused m ≡ sent n → ⊥
 unsent e = let z : _≡_ {A = ℕ} 0 1 = cc in omega arith
 
-send-bears : (b : Book) (c t : ℕ) (r : ScsiResponse) (x : Record) (o : Outputs) (q : OpenConnection) (n : ℕ) → sendBy b c t (R.ScsiResponse r) x o q .answer ≡ sent n
+send-bears : (b : Book) (c t : ℕ) (r : ScsiResponse) (x : Record) (o : Outputs) (q : OpenConnection) (n : ℕ)
+    → sendBy b c t (R.ScsiResponse r) x o q .answer ≡ sent n
     → ListN.take 4 (drop 36 (sendBy b c t (R.ScsiResponse r) x o q .out .header)) ≡ bytesOf 4 (T.expDataSN (x .numbering) (r .response))
 unfolding sendBy sendAs written L.headerFor
 send-bears b c t r x o q n = go (L.sending (q .ledger) (q .longest) (isDue x (R.ScsiResponse r)) (completed x (R.ScsiResponse r)))
@@ -187,7 +194,8 @@ send-bears b c t r x o q n = go (L.sending (q .ledger) (q .longest) (isDue x (R.
     go (L.notStored k) e = bears (withExpDataSN r (T.expDataSN (x .numbering) (r .response))) m (drop 48 (o .header))
     go (L.stored k) e = bears (withExpDataSN r (T.expDataSN (x .numbering) (r .response))) m (drop 48 (o .header))
 
-responds-with : (b : Book) (c t : ℕ) (r : ScsiResponse) (x : Record) (l : Outputs) (y : Turn) (n : ℕ) (o : Outputs) (k : ℕ) → y .call ≡ send c t (R.ScsiResponse r) x l
+responds-with : (b : Book) (c t : ℕ) (r : ScsiResponse) (x : Record) (l : Outputs) (y : Turn) (n : ℕ) (o : Outputs) (k : ℕ)
+    → y .call ≡ send c t (R.ScsiResponse r) x l
     → bookStep b (y .call) (y .choice) .answer ≡ sent n → bookStep b (y .call) (y .choice) .out ≡ o → Bounded x → Bears (o .header) k
     → k ≡ T.expDataSN (x .numbering) (r .response)
 responds-with b c t r x l y n o k q a w i u =
@@ -211,8 +219,8 @@ cut q = (cc, cc)
 empty : {e : Event} {es : List Event} → e ∷ es ≡ [] → ⊥
 empty q = let z : _≡_ {A = ℕ} 0 1 = cc in omega arith
 
-runs : (g : Given) {x y : Record} {es : List Event} {ts : List H.Event} → OnTask (g .level) x es ts y → Bounded x → (past : Past) (b : Book) → Inv g past b → (us : List Turn)
-    → es ≡ bookRun b us → H.Ran x ts y
+runs : (g : Given) {x y : Record} {es : List Event} {ts : List H.Event} → OnTask (g .level) x es ts y → Bounded x → (past : Past) (b : Book)
+    → Inv g past b → (us : List Turn) → es ≡ bookRun b us → H.Ran x ts y
 unfolding bookRun booked
 runs g done i past b v us q = H.done
 runs g (other r) i past b v [] q = absurd (empty q)
@@ -221,16 +229,19 @@ runs g (moves r) i past b v [] q = absurd (empty q)
 runs g (moves {x = x} {x' = x'} {y = y} {c = c} {d = d} {a = a} {ts = ts} r) i past b v (u ∷ us) q =
     let e = cut q .0 in
     let k = ap (λ (w : Event). w .call) e in
-    let w : bookStep b (transfer c x d) (u .choice) .answer ≡ moved a x' = ap (λ (z : Call). bookStep b z (u .choice) .answer) k ∙ sym (ap (λ (w : Event). w .answer) e) in
+    let w : bookStep b (transfer c x d) (u .choice) .answer ≡ moved a x' =
+    ap (λ (z : Call). bookStep b z (u .choice) .answer) k ∙ sym (ap (λ (w : Event). w .answer) e) in
     let m = transfer-moves b c x d a x' (sym (transferred b c x d (u .choice)) ∙ w) in
     let lv = ap (λ (z : Given). z .level) (v .given) in
     let m' = subst (λ (n : ℕ). Moved (H.stepOf x (dataCallOf n d)) a x') lv m in
     H.moves (m' .answer) (subst (λ (z : Record). H.Ran z ts y) (sym (m' .after))
-    (runs g r (subst Bounded (m' .after) (bounded-step x i (dataCallOf (g .level) d))) (andThen past (booked b u)) (bookStep b (u .call) (u .choice) .book) (inv-step g past b v u) us (cut q .1)))
+    (runs g r (subst Bounded (m' .after) (bounded-step x i (dataCallOf (g .level) d))) (andThen past (booked b u)) (bookStep b (u .call) (u .choice) .book)
+    (inv-step g past b v u) us (cut q .1)))
 runs g (responds h r) i past b v [] q = absurd (empty q)
 runs g (responds {x = x} {c = c} {t = t} {n = n} {k = k} {r = s} {l = l} {o = o} h r) i past b v (u ∷ us) q =
     let e = cut q .0 in
-    H.responds (responds-with b c t s x l u n o k (sym (ap (λ (w : Event). w .call) e)) (sym (ap (λ (w : Event). w .answer) e)) (sym (ap (λ (w : Event). w .out) e)) i h)
+    H.responds
+    (responds-with b c t s x l u n o k (sym (ap (λ (w : Event). w .call) e)) (sym (ap (λ (w : Event). w .answer) e)) (sym (ap (λ (w : Event). w .out) e)) i h)
     (runs g r i (andThen past (booked b u)) (bookStep b (u .call) (u .choice) .book) (inv-step g past b v u) us (cut q .1))
 
 -- The data sentences of what the fresh book answers to any list of calls, of any task whose record was made.

@@ -393,6 +393,7 @@ module _ (κs : Lifetimes.Lfts 0) (a : K.Dens {n = 0} κs fresh-k.ps) (w : K.res
 
   -- The data sentences of every task among them: its record was made from t, with immediate data of the length n, and each of its calls was given the
   -- record as it was last answered.
-  pub data-sentences : (t : TaskGiven) (n : ℕ) {x y : Record} {ts : List T.Event} → making t n ≡ made x → OnTask (a .0 .level) x es ts y → DataPhases t n ts
+  pub data-sentences : (t : TaskGiven) (n : ℕ) {x y : Record} {ts : List T.Event} → making t n ≡ made x
+      → OnTask (a .0 .level) x es ts y → DataPhases t n ts
   data-sentences t n {x} {y} {ts} m o =
       tasks-booked (a .0) (turnsOf es) t n m (subst (λ (l : List Event). OnTask (a .0 .level) x l ts y) (booked .events) o)

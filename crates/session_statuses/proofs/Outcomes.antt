@@ -7,7 +7,6 @@ use native.Mathlib.Omega.{arith}
 use borrow.Author.Tests.{eq-eqb, ne-eqb}
 use lib.ListN.{length, drop}
 use Rattle.response_header.specs.declared.Response.{Response}
-use Rattle.response_header.specs.declared.Response.the-variants as R
 use Rattle.task_book.specs.Record.{Record}
 use Rattle.window.specs.Book as W
 use Rattle.ledger.specs.Book as L
@@ -15,6 +14,7 @@ use Rattle.ledger.specs.Agree as LA
 use Rattle.ledger.specs.Answer as Answers
 use Rattle.ledger.specs.declared.Renewal.{Renewal}
 use Rattle.book.specs.Book.{OpenConnection, withLedger, live, Book, Outputs, outputs, noOutputs, written, send, acknowledge, resend, Choice, refused, sent, acknowledged, resent, step, withConn, onConnection, lending, sendAs, completed, isDue, sendBy, acknowledgeBy, connOf, renewal, shown, resendBy, bookStep}
+use Rattle.book.proofs.Small.{completed-status}
 use Rattle.session_state.proofs.Steps.{lend-long, reach-open}
 
 -- ---- each call, by its connection
@@ -58,18 +58,8 @@ module _ (b : Book) (c t : ℕ) (r : Response) (y : Record) (o : List ℕ) (k : 
     send-refused n e = rw (limit, ← is, ← whole, ← e)
 
 -- what is written is a status where the response that was given is one
-status-same : (y : Record) (r : Response) → L.isStatus (completed y r) ≡ L.isStatus r
-status-same y (R.NopIn x) = refl
-status-same y (R.ScsiResponse x) = refl
-status-same y (R.TaskManagementResponse x) = refl
-status-same y (R.LoginResponse x) = refl
-status-same y (R.DataIn x) = refl
-status-same y (R.LogoutResponse x) = refl
-status-same y (R.R2t x) = refl
-status-same y (R.Reject x) = refl
-
 pub status-given : (y : Record) (r w : Response) (s : Bool) → w ≡ completed y r → L.isStatus w ≡ s → L.isStatus r ≡ s
-status-given y r w s e q = sym (status-same y r) ∙ ap L.isStatus (sym e) ∙ q
+status-given y r w s e q = sym (completed-status y r) ∙ ap L.isStatus (sym e) ∙ q
 
 -- ---- resend
 

@@ -86,7 +86,8 @@ module _ (x : Record) (b : Bounded x) where
   by-snack v i o p = go (snackOk x i p) (eqb v 0) (eqb (p .«snack_type») 0) (eqb (p .«snack_type») 2)
     where
       go : (k z t u : Bool)
-          → Bounded (pick k (pick z (refuse 12 x) (pick t (dataRun x (p .«beg_run») (p .«run_length»)) (pick u (dataAcknowledged x (p .«beg_run»)) (dataRestarted x o p)))) (refuse 3 x) .after)
+          → Bounded (pick k (pick z (refuse 12 x) (pick t (dataRun x (p .«beg_run») (p .«run_length»))
+          (pick u (dataAcknowledged x (p .«beg_run»)) (dataRestarted x o p)))) (refuse 3 x) .after)
       go false z t u = b
       go true true t u = b
       go true false true u = b

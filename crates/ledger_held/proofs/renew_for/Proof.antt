@@ -21,7 +21,8 @@ unfolding renewedFor
 returns-2 c =
     let e = c .before .before .before .before .before .before .before .before in
     let a = e .before .before .before .before .before .args in
-    rw (eq-eqb (getD (a .out .now) 0 0) 0x21 (e .before .before .if1 .left)) (rw (c .before .before .put-four .ensures, c .before .before .before .before .before .before .put-tag .ensures, e .exp-data-sn .ensures))
+    let t = c .before .before .before .before .before .before .put-tag .ensures in
+    rw (eq-eqb (getD (a .out .now) 0 0) 0x21 (e .before .before .if1 .left)) (rw (c .before .before .put-four .ensures, t, e .exp-data-sn .ensures))
 
 pub renew-for-spec : {M : Type 1} → statement M
 renew-for-spec =

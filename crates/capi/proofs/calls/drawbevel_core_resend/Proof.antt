@@ -7,7 +7,9 @@ use Rattle.capi.proofs.calls.drawbevel_core_resend.Tie as tie
 returns : tie.Need-returns
 returns c k tags ends =
     let call = c .before .before .before .resend in
-    shown-said (resendAnswer (call .result)) (rw (c .before .before .before .before .before .before .load .ensures, c .before .before .before .before .before .load2 .ensures) at (call .ensures k tags ends)) (c .resent .ensures)
+    let s = c .before .before .before .before .before .before .load .ensures in
+    let t = c .before .before .before .before .before .load2 .ensures in
+    shown-said (resendAnswer (call .result)) (rw (s, t) at (call .ensures k tags ends)) (c .resent .ensures)
 
 pub drawbevel-core-resend-spec : {M : Type 1} → statement M
 drawbevel-core-resend-spec =
