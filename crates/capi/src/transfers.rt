@@ -105,7 +105,7 @@ pub extern "C" fn drawbevel_core_data_out(
         (now (answer .exit)) noOutputs
         (taskWords (now (task .exit)) (now (wide .exit)) (now (tags .entry)) (now (ends .entry)))) ⌝ }
 {
-    transfer_words::data_out(n, m, task, wide, tags, ends, conn, pdu, answer);
+    data_out_words::data_out(n, m, task, wide, tags, ends, conn, pdu, answer);
 }
 
 // Takes a SNACK for data that came; the offset is used by type 3 alone.
@@ -127,5 +127,5 @@ pub extern "C" fn drawbevel_core_data_snack(
         (now (answer .exit)) noOutputs
         (taskWords (now (task .exit)) (now (wide .exit)) tags ends)) ⌝ }
 {
-    transfer_words::data_snack(n, m, task, wide, conn, offset, pdu, answer);
+    data_out_words::data_snack(n, m, task, wide, conn, offset, pdu, answer);
 }

@@ -17,7 +17,8 @@ returns-2 c k ss tags ends =
     let s = call .before .before .before .before .before .load .ensures in
     let t = call .before .before .load2 .ensures in
     let kept = rw t at (c .before .store .ensures .2 ∙ c .before .before .after-data-in .ensures) in
-    moved-moves (rw (s, t, c .before .before .before .before .before .before .numbering .given .1) at (call .data-in .ensures k ss tags ends)) (c .pack .ensures)
+    moved-moves (rw (s, t, c .before .before .before .before .before .before .numbering .given .1) at (call .data-in .ensures k ss tags ends))
+    (c .pack .ensures)
     (kept-record tags ends kept)
 
 pub data-in-spec : {M : Type 1} → statement M

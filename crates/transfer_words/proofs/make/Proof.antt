@@ -10,7 +10,8 @@ returns c tags ends =
 
 returns-2 : tie.Need-returns-2
 returns-2 c tags ends =
-    makes _ (rw (c .before .before .before .before .before .t .given .1) at (c .before .before .before .before .before .before .before .make .ensures tags ends))
+    makes _
+    (rw (c .before .before .before .before .before .t .given .1) at (c .before .before .before .before .before .before .before .make .ensures tags ends))
     (c .pack .ensures) (kept-record tags ends (c .before .store .ensures .2))
 
 pub make-spec : {M : Type 1} → statement M

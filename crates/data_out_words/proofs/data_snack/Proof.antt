@@ -1,8 +1,8 @@
 use mathlib.Core.Path.{_∙_, refl}
 use borrow.Author.Needs.{needs}
 use Rattle.transfer_words.proofs.Outcomes.{refused-moves, moved-moves, kept-record}
-use Rattle.transfer_words.proofs.data_snack.Statement.{statement}
-use Rattle.transfer_words.proofs.data_snack.Tie as tie
+use Rattle.data_out_words.proofs.data_snack.Statement.{statement}
+use Rattle.data_out_words.proofs.data_snack.Tie as tie
 
 returns : tie.Need-returns
 returns c k ss tags ends =
@@ -16,7 +16,8 @@ returns-2 c k ss tags ends =
     let call = c .before .before .before .before in
     let s = call .before .before .before .before .load .ensures in
     let t = call .before .load2 .ensures in
-    moved-moves (rw (s, t, c .before .before .first .given .1) at (call .data-snack .ensures k ss tags ends)) (c .data-run .ensures) (kept-record tags ends refl)
+    moved-moves (rw (s, t, c .before .before .first .given .1) at (call .data-snack .ensures k ss tags ends))
+    (c .data-run .ensures) (kept-record tags ends refl)
 
 returns-3 : tie.Need-returns-3
 returns-3 c k ss tags ends =
@@ -24,7 +25,8 @@ returns-3 c k ss tags ends =
     let s = call .before .before .before .before .load .ensures in
     let t = call .before .load2 .ensures in
     let kept = rw t at (c .before .store .ensures .2 ∙ c .before .before .after-data-in .ensures) in
-    moved-moves (rw (s, t, c .before .before .before .before .before .before .before .count .given .1) at (call .data-snack .ensures k ss tags ends)) (c .data-acknowledged .ensures) (kept-record tags ends kept)
+    moved-moves (rw (s, t, c .before .before .before .before .before .before .before .count .given .1) at (call .data-snack .ensures k ss tags ends))
+    (c .data-acknowledged .ensures) (kept-record tags ends kept)
 
 returns-4 : tie.Need-returns-4
 returns-4 c k ss tags ends =
@@ -32,7 +34,8 @@ returns-4 c k ss tags ends =
     let s = call .before .before .before .before .load .ensures in
     let t = call .before .load2 .ensures in
     let kept = rw t at (c .before .store2 .ensures .2 ∙ c .before .before .after-data-in2 .ensures) in
-    moved-moves (rw (s, t, c .before .before .before .before .before .before .first2 .given .1) at (call .data-snack .ensures k ss tags ends)) (c .data-run2 .ensures) (kept-record tags ends kept)
+    moved-moves (rw (s, t, c .before .before .before .before .before .before .first2 .given .1) at (call .data-snack .ensures k ss tags ends))
+    (c .data-run2 .ensures) (kept-record tags ends kept)
 
 pub data-snack-spec : {M : Type 1} → statement M
 data-snack-spec =
