@@ -467,10 +467,10 @@ uint64_t drawbevel_core_data_in(const uint32_t *numbers15, const uint64_t *maps6
                                 bool acknowledge, uint32_t length, uint8_t *out, size_t lent);
 uint64_t drawbevel_core_r2t(const uint32_t *numbers15, const uint64_t *maps6, uint32_t *task12, uint64_t *wide4, uint32_t *tags8, uint64_t *ends8,
                             uint32_t connection, uint32_t tag, uint32_t length, uint8_t *out, size_t lent);
-void drawbevel_core_data_out(const uint32_t *numbers15, const uint64_t *maps6, uint32_t *task12, uint64_t *wide4, const uint32_t *tags8,
-                             const uint64_t *ends8, uint32_t connection, const uint8_t *pdu, size_t length, uint32_t *answer4);
-void drawbevel_core_data_snack(const uint32_t *numbers15, const uint64_t *maps6, uint32_t *task12, uint64_t *wide4, uint32_t connection,
-                               uint32_t offset, const uint8_t *pdu, size_t length, uint32_t *answer4);
+void drawbevel_core_data_out(const uint32_t *numbers15, const uint64_t *maps6, uint32_t connection, const uint8_t *pdu, size_t length,
+                             uint32_t *task12, uint64_t *wide4, const uint32_t *tags8, const uint64_t *ends8, uint32_t *answer4);
+void drawbevel_core_data_snack(const uint32_t *numbers15, const uint64_t *maps6, uint32_t connection, const uint8_t *pdu, size_t length,
+                               uint32_t *task12, uint64_t *wide4, uint32_t offset, uint32_t *answer4);
 
 /* A fresh session: its first command number, connection 0's first StatSN and the ErrorRecoveryLevel. Connection 0 is open, nothing is held. */
 static inline void drawbevel_fresh(struct drawbevel_session *session, uint32_t first, uint32_t stat_sn, uint8_t level)
@@ -652,7 +652,7 @@ static inline enum drawbevel_answer drawbevel_task_data_out(const struct drawbev
                                                             const uint8_t *pdu, size_t length, struct drawbevel_came *came)
 {
     uint32_t a[4];
-    drawbevel_core_data_out(session->numbers, session->maps, task->numbers, task->wide, task->tags, task->ends, connection, pdu, length, a);
+    drawbevel_core_data_out(session->numbers, session->maps, connection, pdu, length, task->numbers, task->wide, task->tags, task->ends, a);
     came->offset = a[1];
     came->count = a[2];
     came->open = a[3];
@@ -672,7 +672,7 @@ static inline enum drawbevel_answer drawbevel_task_snack(const struct drawbevel_
 {
     uint32_t a[4];
     bool is_run;
-    drawbevel_core_data_snack(session->numbers, session->maps, task->numbers, task->wide, connection, offset, pdu, length, a);
+    drawbevel_core_data_snack(session->numbers, session->maps, connection, pdu, length, task->numbers, task->wide, offset, a);
     is_run = a[0] == DRAWBEVEL_RUN;
     *first = is_run ? a[1] : 0;
     *count = is_run ? a[2] : a[1];

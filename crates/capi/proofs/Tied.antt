@@ -224,9 +224,9 @@ pub record ByDataOut (d : Done) : Type 1 where
   pub learnt : data-out-r.Learnt κs a r s
   pub commands-left : Commands
   pub statuses-left : Statuses
-  pub is : d ≡ done (calls (transfer (a .1 .1 .1 .1 .1 .1 .0)
-      (recordIn (taskWords (now (a .1 .1 .0)) (now (a .1 .1 .1 .0)) (now (a .1 .1 .1 .1 .0)) (now (a .1 .1 .1 .1 .1 .0))))
-      (dataOut (now (a .1 .1 .1 .1 .1 .1 .1 .0)))))
+  pub is : d ≡ done (calls (transfer (a .1 .1 .0)
+      (recordIn (taskWords (now (a .1 .1 .1 .1 .0)) (now (a .1 .1 .1 .1 .1 .0)) (now (a .1 .1 .1 .1 .1 .1 .0)) (now (a .1 .1 .1 .1 .1 .1 .1 .0))))
+      (dataOut (now (a .1 .1 .1 .0)))))
       (sessionWords (now (a .0)) (now (a .1 .0)) commands-left statuses-left) (now (s .1 .1 .1 .1 .1 .1 .1 .1 .0)) noOutputs
       (sessionWords (now (a .0)) (now (a .1 .0)) commands-left statuses-left)
 
@@ -241,8 +241,8 @@ pub record ByDataSnack (d : Done) : Type 1 where
   pub statuses-left : Statuses
   pub tags : List ℕ
   pub ends : List ℕ
-  pub is : d ≡ done (calls (transfer (a .1 .1 .1 .1 .0) (recordIn (taskWords (now (a .1 .1 .0)) (now (a .1 .1 .1 .0)) tags ends))
-      (dataSnack (a .1 .1 .1 .1 .1 .0) (now (a .1 .1 .1 .1 .1 .1 .0)))))
+  pub is : d ≡ done (calls (transfer (a .1 .1 .0) (recordIn (taskWords (now (a .1 .1 .1 .1 .0)) (now (a .1 .1 .1 .1 .1 .0)) tags ends))
+      (dataSnack (a .1 .1 .1 .1 .1 .1 .0) (now (a .1 .1 .1 .0)))))
       (sessionWords (now (a .0)) (now (a .1 .0)) commands-left statuses-left) (now (s .1 .1 .1 .1 .1 .1 .1 .0)) noOutputs
       (sessionWords (now (a .0)) (now (a .1 .0)) commands-left statuses-left)
 

@@ -90,12 +90,12 @@ pub extern "C" fn drawbevel_core_r2t(
 pub extern "C" fn drawbevel_core_data_out(
     n: &[u32; 15],
     m: &[u64; 6],
+    conn: u32,
+    pdu: &[u8],
     task: &mut [u32; 12],
     wide: &mut [u64; 4],
     tags: &[u32; 8],
     ends: &[u64; 8],
-    conn: u32,
-    pdu: &[u8],
     answer: &mut [u32; 4],
 )
     ensures { λ _. ⌜ ((k : Commands) (ss : Statuses)
@@ -105,7 +105,7 @@ pub extern "C" fn drawbevel_core_data_out(
         (now (answer .exit)) noOutputs
         (taskWords (now (task .exit)) (now (wide .exit)) (now (tags .entry)) (now (ends .entry)))) ⌝ }
 {
-    data_out_words::data_out(n, m, task, wide, tags, ends, conn, pdu, answer);
+    data_out_words::data_out(n, m, conn, pdu, task, wide, tags, ends, answer);
 }
 
 // Takes a SNACK for data that came; the offset is used by type 3 alone.
@@ -113,11 +113,11 @@ pub extern "C" fn drawbevel_core_data_out(
 pub extern "C" fn drawbevel_core_data_snack(
     n: &[u32; 15],
     m: &[u64; 6],
+    conn: u32,
+    pdu: &[u8],
     task: &mut [u32; 12],
     wide: &mut [u64; 4],
-    conn: u32,
     offset: u32,
-    pdu: &[u8],
     answer: &mut [u32; 4],
 )
     ensures { λ _. ⌜ ((k : Commands) (ss : Statuses) (tags ends : List ℕ)
@@ -127,5 +127,5 @@ pub extern "C" fn drawbevel_core_data_snack(
         (now (answer .exit)) noOutputs
         (taskWords (now (task .exit)) (now (wide .exit)) tags ends)) ⌝ }
 {
-    data_out_words::data_snack(n, m, task, wide, conn, offset, pdu, answer);
+    data_out_words::data_snack(n, m, conn, pdu, task, wide, offset, answer);
 }

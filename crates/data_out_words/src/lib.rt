@@ -3,8 +3,8 @@
 use session_words::load;
 use task::DataOutAnswer;
 use task::DataSnackAnswer;
-use task_words::after_data_in;
-use task_words::after_data_out;
+use task_words::store_data_in;
+use task_words::store_data_out;
 ghost use mathlib.Core.List.{List};
 ghost use Prim.Native.Nat.{ℕ};
 ghost use Rattle.window.specs.Agree.{Commands};
@@ -19,12 +19,12 @@ ghost use Rattle.transfer_words.specs.Moves.{Moves};
 pub fn data_out(
     n: &[u32; 15],
     m: &[u64; 6],
+    conn: u32,
+    pdu: &[u8],
     task: &mut [u32; 12],
     wide: &mut [u64; 4],
     tags: &[u32; 8],
     ends: &[u64; 8],
-    conn: u32,
-    pdu: &[u8],
     answer: &mut [u32; 4],
 )
     ensures { λ _. ⌜ ((k : Commands) (ss : Statuses)
@@ -35,8 +35,13 @@ pub fn data_out(
         (taskWords (now (task .exit)) (now (wide .exit)) (now (tags .entry)) (now (ends .entry)))) ⌝ }
 {
     let s = load(n, m);
+    let f = session_data_out::data_out_refusal(s, conn, pdu);
+    if f != 0 {
+        *answer = answer_words::refused_by(f);
+        return;
+    }
     let t = task_words::load(task, wide);
-    match session_data_out::data_out(s, conn, t, tags, ends, pdu) {
+    match session_data_out::data_out_in(t, tags, ends, pdu) {
         DataOutAnswer::Refused(number) => {
             *answer = answer_words::refused_by(number);
         }
@@ -47,11 +52,7 @@ pub fn data_out(
             first_open,
             open_count,
         } => {
-            task_words::store(
-                task,
-                wide,
-                after_data_out(t, sequence, first_open, open_count),
-            );
+            store_data_out(task, wide, sequence, first_open, open_count);
             *answer = answer_words::came(offset, count, open_count);
         }
     }
@@ -61,11 +62,11 @@ pub fn data_out(
 pub fn data_snack(
     n: &[u32; 15],
     m: &[u64; 6],
+    conn: u32,
+    pdu: &[u8],
     task: &mut [u32; 12],
     wide: &mut [u64; 4],
-    conn: u32,
     offset: u32,
-    pdu: &[u8],
     answer: &mut [u32; 4],
 )
     ensures { λ _. ⌜ ((k : Commands) (ss : Statuses) (tags ends : List ℕ)
@@ -86,7 +87,7 @@ pub fn data_snack(
         }
         DataSnackAnswer::Acknowledged { count, numbering } => {
             let sequence = t.data_in;
-            task_words::store(task, wide, after_data_in(t, numbering, sequence));
+            store_data_in(task, wide, numbering, sequence);
             *answer = answer_words::data_acknowledged(count);
         }
         DataSnackAnswer::Restarted {
@@ -95,7 +96,7 @@ pub fn data_snack(
             numbering,
             sequence,
         } => {
-            task_words::store(task, wide, after_data_in(t, numbering, sequence));
+            store_data_in(task, wide, numbering, sequence);
             *answer = answer_words::data_run(first, count);
         }
     }

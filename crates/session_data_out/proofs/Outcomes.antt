@@ -1,9 +1,9 @@
 -- The book's step at a Data-Out and at a SNACK for data: the step on the task's record that the PDU brings.
-use Prim.Native.Nat.{ℕ}
+use Prim.Native.Nat.{ℕ, zero, suc}
 use mathlib.Core.Path.{_≡_, refl, sym, ap, _∙_}
-use mathlib.Core.Bool.{true}
-use mathlib.Core.List.{List}
-use Rattle.field.specs.Field.{beAt}
+use mathlib.Core.Bool.{Bool, true, false}
+use mathlib.Core.List.{List, [], _∷_}
+use Rattle.field.specs.Field.{pick, beAt}
 use Rattle.request_header.specs.declared.DataOut.{DataOut}
 use Rattle.request_header.specs.declared.Snack.{Snack}
 use Rattle.request_header.specs.declared.Limits.{Limits}
@@ -13,18 +13,17 @@ use Rattle.request_header.specs.Kind.{ifDataOut, ifSnack}
 use Rattle.request_header.specs.Request as Read
 use Rattle.request_header.specs.Request.{readPdu, got, pduOf, requestOf, known, dataOutOf, snackOf, dataLengthOf}
 use Rattle.request_refusal.proofs.OneKind.{not-data-out, not-snack}
-use Rattle.task_book.specs.Record.{Record}
+use Rattle.task_book.specs.Record.{OpenR2T, Record}
 use Rattle.task_book.specs.Steps as T
-use Rattle.task.specs.Agree.{dataOutStepOf, dataSnackStepOf}
+use Rattle.task_book.specs.Steps.{dataOutStep, dataOutAt, dataOutOk}
+use Rattle.task.specs.Agree.{dataSnackStepOf}
 use Rattle.task.specs.declared.Task.{Task}
-use Rattle.task.specs.declared.DataOutAnswer.{DataOutAnswer}
-use Rattle.task.specs.declared.DataOutAnswer.the-variants as O
 use Rattle.task.specs.declared.DataSnackAnswer.{DataSnackAnswer}
 use Rattle.task.specs.declared.DataSnackAnswer.the-variants as S
 use Rattle.book.specs.Book.{OpenConnection, Book, noOutputs, dataOut, dataSnack, transfer, Choice, step}
 use Rattle.book.specs.Book.{movedBy, dataOutBy, dataSnackBy, onConnection, transferBy, bookStep}
 use Rattle.session_state.specs.Transfer.{transferred}
-use Rattle.session_data_out.specs.Reading.{dataOutRead, dataSnackRead}
+use Rattle.session_data_out.specs.Reading.{dataOutRead, dataOutJudged, dataSnackRead}
 
 module _ (x : Record) (s : List ℕ) where
   pub data-out-other : (o : ℕ) → (o ≡ 0x05 → ⊥) → dataOutRead x (got (pduOf o s)) ≡ T.refuse 3 x
@@ -34,6 +33,11 @@ module _ (x : Record) (s : List ℕ) where
   pub data-out-good : T.dataOutStep x (beAt s 16 4) (dataOutOf s) (dataLengthOf s) ≡ dataOutRead x (got (pduOf 0x05 s))
   unfolding pduOf requestOf
   data-out-good = refl
+
+  -- a number that refuses
+  pub data-out-refused : (n : ℕ) → (n ≡ 0 → ⊥) → dataOutJudged x s n ≡ T.refuse n x
+  data-out-refused zero h = absurd (h refl)
+  data-out-refused (suc n) h = refl
 
   module _ (v f : ℕ) where
     pub snack-other : (o : ℕ) → known o ≡ true → (o ≡ 0x10 → ⊥) → dataSnackRead x v f (got (pduOf o s)) ≡ T.refuse 3 x
@@ -88,11 +92,23 @@ module _ (b : Book) (k : OpenConnection) where
   snack-moved x f (Read.got p) = if-snack (λ q. T.dataSnackStep x (b .given .level) (p .«initiator_task_tag») f q) (T.refuse 3 x) (p .request)
 
   -- neither writes
-  out-moved : (t : Task) (ts es : List ℕ) (r : DataOutAnswer)
-      → movedBy b noOutputs k (dataOutStepOf t ts es r) ≡ step (transferred (dataOutStepOf t ts es r)) noOutputs b
+  pick-moved : (ok : Bool) (f n j : ℕ) (y x : Record)
+      → movedBy b noOutputs k (pick ok (T.step (T.came f n j) y) (T.refuse 3 x)) ≡ step (transferred (pick ok (T.step (T.came f n j) y) (T.refuse 3 x))) noOutputs b
   unfolding movedBy
-  out-moved t ts es (O.Refused f) = refl
-  out-moved t ts es (O.Came o n s i j) = refl
+  pick-moved true f n j y x = refl
+  pick-moved false f n j y x = refl
+
+  at-moved : (x : Record) (l : List OpenR2T) (i : ℕ) (q : DataOut) (n : ℕ)
+      → movedBy b noOutputs k (dataOutAt x l i q n) ≡ step (transferred (dataOutAt x l i q n)) noOutputs b
+  unfolding movedBy
+  at-moved x [] i q n = refl
+  at-moved x (o ∷ l) i q n = pick-moved (dataOutOk x o i q n) _ _ _ _ x
+
+  out-moved : (x : Record) (p : List ℕ) (n : ℕ)
+      → movedBy b noOutputs k (dataOutJudged x p n) ≡ step (transferred (dataOutJudged x p n)) noOutputs b
+  unfolding movedBy dataOutStep
+  out-moved x p zero = at-moved x (x .openR2Ts) (beAt p 16 4) (dataOutOf p) (dataLengthOf p)
+  out-moved x p (suc n) = refl
 
   asked-moved : (t : Task) (ts es : List ℕ) (r : DataSnackAnswer)
       → movedBy b noOutputs k (dataSnackStepOf t ts es r) ≡ step (transferred (dataSnackStepOf t ts es r)) noOutputs b
@@ -102,14 +118,14 @@ module _ (b : Book) (k : OpenConnection) where
   asked-moved t ts es (S.Acknowledged n m) = refl
   asked-moved t ts es (S.Restarted f n m s) = refl
 
-  module _ (t : Task) (ts es : List ℕ) (m : Limits) (limits : k .limits ≡ m) (x : Record) (p : List ℕ) where
-    pub data-out-live : (r : DataOutAnswer) → dataOutStepOf t ts es r ≡ dataOutRead x (readPdu m p)
-        → dataOutBy b x k (readPdu (k .limits) p) ≡ step (transferred (dataOutStepOf t ts es r)) noOutputs b
-    data-out-live r e =
-        ap (λ (l : Limits). dataOutBy b x k (readPdu l p)) limits ∙ data-out-moved x (readPdu m p) ∙ rw (← e) (out-moved t ts es r)
+  module _ (m : Limits) (limits : k .limits ≡ m) (x : Record) (p : List ℕ) where
+    pub data-out-live : (n : ℕ) → dataOutJudged x p n ≡ dataOutRead x (readPdu m p)
+        → dataOutBy b x k (readPdu (k .limits) p) ≡ step (transferred (dataOutJudged x p n)) noOutputs b
+    data-out-live n e = ap (λ (l : Limits). dataOutBy b x k (readPdu l p)) limits ∙ data-out-moved x (readPdu m p) ∙ rw (← e) (out-moved x p n)
 
-    pub data-snack-live : (f v : ℕ) (r : DataSnackAnswer) → v ≡ b .given .level → dataSnackStepOf t ts es r ≡ dataSnackRead x v f (readPdu m p)
-        → dataSnackBy b x f k (readPdu (k .limits) p) ≡ step (transferred (dataSnackStepOf t ts es r)) noOutputs b
-    data-snack-live f v r q e =
-        ap (λ (l : Limits). dataSnackBy b x f k (readPdu l p)) limits ∙ snack-moved x f (readPdu m p)
-        ∙ ap (λ (u : ℕ). movedBy b noOutputs k (dataSnackRead x u f (readPdu m p))) (sym q) ∙ rw (← e) (asked-moved t ts es r)
+    module _ (t : Task) (ts es : List ℕ) where
+      pub data-snack-live : (f v : ℕ) (r : DataSnackAnswer) → v ≡ b .given .level → dataSnackStepOf t ts es r ≡ dataSnackRead x v f (readPdu m p)
+          → dataSnackBy b x f k (readPdu (k .limits) p) ≡ step (transferred (dataSnackStepOf t ts es r)) noOutputs b
+      data-snack-live f v r q e =
+          ap (λ (l : Limits). dataSnackBy b x f k (readPdu l p)) limits ∙ snack-moved x f (readPdu m p)
+          ∙ ap (λ (u : ℕ). movedBy b noOutputs k (dataSnackRead x u f (readPdu m p))) (sym q) ∙ rw (← e) (asked-moved t ts es r)

@@ -1,5 +1,6 @@
 // What comes to a session for a task's data: a Data-Out with data that was asked for, and a SNACK for data that was sent. No call has a
-// requirement of its caller: they refuse. They change nothing in the session; what is new of the task's record is in the answer.
+// requirement of its caller: they refuse. They change nothing in the session; what is new of the task's record is in the answer. A Data-Out is taken
+// in two steps, so that a caller whose record lies in words loads it only for a Data-Out that is judged good.
 use field::be32;
 use field::flag;
 use refusal::Refusal;
@@ -25,6 +26,7 @@ ghost use Prim.Native.Nat.{ℕ, _≤_};
 ghost use lib.ListN.{length};
 ghost use Rattle.field.specs.Field.{beAt};
 ghost use Rattle.request_header.specs.Request.{readPdu, dataOutOf, snackOf, dataLengthOf};
+ghost use Rattle.task_book.specs.Record.{Record};
 ghost use Rattle.task_book.specs.Steps.{dataOutStep, dataSnackStep};
 ghost use Rattle.task.specs.Agree.{recordOf, dataOutStepOf, dataSnackStepOf};
 ghost use Rattle.window.specs.Agree.{Commands};
@@ -32,10 +34,47 @@ ghost use Rattle.ledger.specs.Agree.{Statuses};
 ghost use Rattle.book.specs.Book.{Call, Transfer, noOutputs};
 ghost use Rattle.session_state.specs.Agree.{Did, state};
 ghost use Rattle.session_state.specs.Transfer.{transferred};
-ghost use Rattle.session_data_out.specs.Reading.{dataOutRead, dataSnackRead};
+ghost use Rattle.session_data_out.specs.Reading.{dataOutRead, dataOutJudged, JudgesDataOut, dataSnackRead};
 
-// What a good Data-Out brings: its fields, and where the task's record has its data.
-fn data_out_in(
+// The numbers of refusals.
+const FIELD: u32 = 3;
+
+const NO_CONN: u32 = 7;
+
+const CLOSED: u32 = 8;
+
+// Reading's refusals, and FIELD for another kind than a Data-Out; 0 where none is due.
+fn read_refusal(limits: Limits, pdu: &[u8]) -> u32
+    ensures { λ r. ⌜ (r ≡ 0 → 48 ≤ length (now (pdu .entry)))
+        × ((x : Record) → dataOutJudged x (now (pdu .entry)) r ≡ dataOutRead x (readPdu limits (now (pdu .entry)))) ⌝ }
+{
+    let f = refusal_before_field(pdu, limits);
+    if f != 0 {
+        return f as u32;
+    }
+    if (pdu[0] % 64 != 0x05) | !data_out_ok(pdu) {
+        return FIELD;
+    }
+    0
+}
+
+// Judges a PDU that should be a Data-Out, before its task's record is looked at: NOCONN, CLOSED, reading's refusals, FIELD for another kind; 0 where none
+// is due.
+pub fn data_out_refusal(s: Session, conn: u32, pdu: &[u8]) -> u32
+    ensures { λ r. ⌜ JudgesDataOut s conn (now (pdu .entry)) r ⌝ }
+{
+    match reach(s, conn) {
+        Reached::NoConn => NO_CONN,
+        Reached::Closed => CLOSED,
+        Reached::Open(_) => {
+            let limits = limits_of(s, conn);
+            read_refusal(limits, pdu)
+        }
+    }
+}
+
+// What a Data-Out that is judged good brings: its fields, and where the task's record has its data.
+pub fn data_out_in(
     t: Task,
     tags: &[u32; OPEN_PLACES],
     ends: &[u64; OPEN_PLACES],
@@ -57,34 +96,6 @@ fn data_out_in(
     task_out::data_out(t, tags, ends, initiator_task_tag, p, length)
 }
 
-// The numbers of refusals.
-const FIELD: u32 = 3;
-
-const NO_CONN: u32 = 7;
-
-const CLOSED: u32 = 8;
-
-// Reads a PDU that should be a Data-Out for a task: reading's refusals, FIELD for another kind, then FIELD as the task's record has it.
-fn read_data_out(
-    limits: Limits,
-    t: Task,
-    tags: &[u32; OPEN_PLACES],
-    ends: &[u64; OPEN_PLACES],
-    pdu: &[u8],
-) -> DataOutAnswer
-    ensures { λ r. ⌜ dataOutStepOf t (now (tags .entry)) (now (ends .entry)) r
-        ≡ dataOutRead (recordOf t (now (tags .entry)) (now (ends .entry))) (readPdu limits (now (pdu .entry))) ⌝ }
-{
-    let f = refusal_before_field(pdu, limits);
-    if f != 0 {
-        return DataOutAnswer::Refused(f as u32);
-    }
-    if (pdu[0] % 64 != 0x05) | !data_out_ok(pdu) {
-        return DataOutAnswer::Refused(FIELD);
-    }
-    data_out_in(t, tags, ends, pdu)
-}
-
 // Takes a Data-Out that came on a connection for a task: where its data lies, and what is open then. NOCONN, CLOSED, reading's refusals, FIELD.
 pub fn data_out(
     s: Session,
@@ -98,14 +109,11 @@ pub fn data_out(
         → Did (Call.transfer conn (recordOf t (now (tags .entry)) (now (ends .entry))) (Transfer.dataOut (now (pdu .entry))))
         (state s k ss) (transferred (dataOutStepOf t (now (tags .entry)) (now (ends .entry)) r)) noOutputs (state s k ss)) ⌝ }
 {
-    match reach(s, conn) {
-        Reached::NoConn => DataOutAnswer::Refused(NO_CONN),
-        Reached::Closed => DataOutAnswer::Refused(CLOSED),
-        Reached::Open(_) => {
-            let limits = limits_of(s, conn);
-            read_data_out(limits, t, tags, ends, pdu)
-        }
+    let f = data_out_refusal(s, conn, pdu);
+    if f != 0 {
+        return DataOutAnswer::Refused(f);
     }
+    data_out_in(t, tags, ends, pdu)
 }
 
 // What a good SNACK asks for of a task's data, by its fields.

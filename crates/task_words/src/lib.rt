@@ -1,11 +1,12 @@
 // A task's record as words: twelve numbers of 32 bits and four of 64, which the caller keeps beside the two arrays of open R2Ts. A call that moves
-// data loads them, and keeps the record after it.
+// data loads them, and keeps what it changed.
 use task::Task;
 use task_book::DataInSequence;
 use task_book::DataOutSequence;
 use task_book::Numbering;
 use task_book::TaskGiven;
 ghost use mathlib.Core.Path.{_≡_};
+ghost use lib.ListN.{length};
 ghost use Rattle.words.specs.Words.{flagWord};
 ghost use Rattle.task.specs.Agree.{withDataIn, withR2T, withDataOut};
 ghost use Rattle.task_words.specs.TaskWords.{taskOf, taskNumbers, taskWide};
@@ -74,51 +75,56 @@ pub fn store(n: &mut [u32; 12], w: &mut [u64; 4], t: Task)
     *w = [given.lun, data_in.offset, data_out.asked, data_out.came];
 }
 
-// The record after a Data-In, a DataACK or a SNACK of type 3: what is new of it, and the rest as it was.
-pub fn after_data_in(t: Task, numbering: Numbering, sequence: DataInSequence) -> Task
-    ensures { λ r. ⌜ r ≡ withDataIn t numbering sequence ⌝ }
+// Keeps what a Data-In, a DataACK or a SNACK of type 3 changes of the record.
+pub fn store_data_in(n: &mut [u32], w: &mut [u64], numbering: Numbering, sequence: DataInSequence)
+    requires { ⌜ (length (now n) ≡ 12) × (length (now w) ≡ 4) ⌝ }
+    ensures { λ _. ⌜ taskOf (now (n .exit)) (now (w .exit)) ≡ withDataIn (taskOf (now (n .entry)) (now (w .entry))) numbering sequence ⌝ }
 {
-    let given = t.given;
-    let data_out = t.data_out;
-    Task {
-        given: given,
-        numbering: numbering,
-        data_in: sequence,
-        data_out: data_out,
-        first_open: t.first_open,
-        open_count: t.open_count,
-    }
+    let any_data_in = flag_word(numbering.any_data_in);
+    n[4] = numbering.sent;
+    n[5] = numbering.acknowledged;
+    n[6] = any_data_in;
+    n[7] = numbering.snack_tag;
+    n[8] = sequence.burst;
+    w[1] = sequence.offset;
 }
 
-// The record after an R2T.
-pub fn after_r2t(t: Task, numbering: Numbering, sequence: DataOutSequence, open_count: u32) -> Task
-    ensures { λ r. ⌜ r ≡ withR2T t numbering sequence «open_count» ⌝ }
+// Keeps what an R2T changes of the record.
+pub fn store_r2t(
+    n: &mut [u32],
+    w: &mut [u64],
+    numbering: Numbering,
+    sequence: DataOutSequence,
+    open_count: u32,
+)
+    requires { ⌜ (length (now n) ≡ 12) × (length (now w) ≡ 4) ⌝ }
+    ensures { λ _. ⌜ taskOf (now (n .exit)) (now (w .exit)) ≡ withR2T (taskOf (now (n .entry)) (now (w .entry))) numbering sequence «open_count» ⌝ }
 {
-    let given = t.given;
-    let data_in = t.data_in;
-    Task {
-        given: given,
-        numbering: numbering,
-        data_in: data_in,
-        data_out: sequence,
-        first_open: t.first_open,
-        open_count: open_count,
-    }
+    let any_data_in = flag_word(numbering.any_data_in);
+    n[4] = numbering.sent;
+    n[5] = numbering.acknowledged;
+    n[6] = any_data_in;
+    n[7] = numbering.snack_tag;
+    n[9] = sequence.data_sn;
+    n[11] = open_count;
+    w[2] = sequence.asked;
+    w[3] = sequence.came;
 }
 
-// The record after a Data-Out.
-pub fn after_data_out(t: Task, sequence: DataOutSequence, first_open: u32, open_count: u32) -> Task
-    ensures { λ r. ⌜ r ≡ withDataOut t sequence «first_open» «open_count» ⌝ }
+// Keeps what a Data-Out changes of the record.
+pub fn store_data_out(
+    n: &mut [u32],
+    w: &mut [u64],
+    sequence: DataOutSequence,
+    first_open: u32,
+    open_count: u32,
+)
+    requires { ⌜ (length (now n) ≡ 12) × (length (now w) ≡ 4) ⌝ }
+    ensures { λ _. ⌜ taskOf (now (n .exit)) (now (w .exit)) ≡ withDataOut (taskOf (now (n .entry)) (now (w .entry))) sequence «first_open» «open_count» ⌝ }
 {
-    let given = t.given;
-    let numbering = t.numbering;
-    let data_in = t.data_in;
-    Task {
-        given: given,
-        numbering: numbering,
-        data_in: data_in,
-        data_out: sequence,
-        first_open: first_open,
-        open_count: open_count,
-    }
+    n[9] = sequence.data_sn;
+    n[10] = first_open;
+    n[11] = open_count;
+    w[2] = sequence.asked;
+    w[3] = sequence.came;
 }

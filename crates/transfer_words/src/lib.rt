@@ -6,8 +6,8 @@ use task::DataInAnswer;
 use task::MakeAnswer;
 use task::R2tAnswer;
 use task_book::TaskGiven;
-use task_words::after_data_in;
-use task_words::after_r2t;
+use task_words::store_data_in;
+use task_words::store_r2t;
 ghost use mathlib.Core.List.{List};
 ghost use Prim.Native.Nat.{ℕ};
 ghost use Rattle.window.specs.Agree.{Commands};
@@ -78,7 +78,7 @@ pub fn data_in(
             numbering,
             sequence,
         } => {
-            task_words::store(task, wide, after_data_in(t, numbering, sequence));
+            store_data_in(task, wide, numbering, sequence);
             answer_words::pack(DONE, 0)
         }
     }
@@ -114,7 +114,7 @@ pub fn r2t(
             sequence,
             open_count,
         } => {
-            task_words::store(task, wide, after_r2t(t, numbering, sequence, open_count));
+            store_r2t(task, wide, numbering, sequence, open_count);
             answer_words::pack(DONE, 0)
         }
     }

@@ -1,5 +1,6 @@
 //! What a long history costs: offer, take, send and acknowledge, after more and more of them.
 
+use crate::cases::connection;
 use crate::data::GIVEN;
 use crate::timing::median;
 use bench::sessions::Session;
@@ -59,12 +60,12 @@ fn step<S: Session>(session: &mut S, task: &S::Record, played: &mut u32) {
     *played += 1;
     let mut out = [0; HEADER_BYTES];
     let bytes = pdu::scsi_command(number);
-    let _ = black_box(session.offer(0, number, &bytes.0));
+    let _ = black_box(session.offer(connection(), number, &bytes.0));
     let _ = black_box(session.take(&mut out));
     let response = Response::TaskManagement {
         response: 0,
         itt: number,
     };
-    let _ = black_box(session.send(0, number, task, &mut out, &response));
-    let _ = black_box(session.acknowledge(0, number.wrapping_add(1)));
+    let _ = black_box(session.send(connection(), number, task, &mut out, &response));
+    let _ = black_box(session.acknowledge(connection(), number.wrapping_add(1)));
 }

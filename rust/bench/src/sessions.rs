@@ -70,9 +70,9 @@ pub trait Session {
     ) -> Result<DataSnack, Refusal>;
 }
 
-/// A session of an engine's type, each call by the function of the same name.
+/// A session of an engine's type, each call by the function of the same name: `inline`, or `inline(never)`.
 macro_rules! session {
-    ($(#[$doc:meta])* $name:ident, $session:ty, $record:ty, $begun:expr, $made:expr) => {
+    ($inline:meta, $(#[$doc:meta])* $name:ident, $session:ty, $record:ty, $begun:expr, $made:expr) => {
         $(#[$doc])*
         pub struct $name($session);
 
@@ -87,7 +87,7 @@ macro_rules! session {
                 $made(given).unwrap()
             }
 
-            #[inline]
+            #[$inline]
             fn offer(
                 &mut self,
                 connection: u32,
@@ -97,12 +97,12 @@ macro_rules! session {
                 <$session>::offer(&mut self.0, connection, ticket, pdu)
             }
 
-            #[inline]
+            #[$inline]
             fn take(&mut self, out: &mut [u8]) -> Result<Take, Refusal> {
                 <$session>::take(&mut self.0, out)
             }
 
-            #[inline]
+            #[$inline]
             fn send(
                 &mut self,
                 connection: u32,
@@ -114,12 +114,12 @@ macro_rules! session {
                 <$session>::send(&mut self.0, connection, ticket, task, out, response)
             }
 
-            #[inline]
+            #[$inline]
             fn acknowledge(&mut self, connection: u32, exp_stat_sn: u32) -> Result<u32, Refusal> {
                 <$session>::acknowledge(&mut self.0, connection, exp_stat_sn)
             }
 
-            #[inline]
+            #[$inline]
             fn resend(
                 &mut self,
                 connection: u32,
@@ -130,7 +130,7 @@ macro_rules! session {
                 <$session>::resend(&mut self.0, connection, stat_sn, task, out)
             }
 
-            #[inline]
+            #[$inline]
             fn data_in(
                 &mut self,
                 connection: u32,
@@ -141,7 +141,7 @@ macro_rules! session {
                 <$session>::data_in(&mut self.0, connection, task, out, pdu)
             }
 
-            #[inline]
+            #[$inline]
             fn r2t(
                 &mut self,
                 connection: u32,
@@ -153,7 +153,7 @@ macro_rules! session {
                 <$session>::r2t(&mut self.0, connection, task, out, tag, length)
             }
 
-            #[inline]
+            #[$inline]
             fn data_out(
                 &mut self,
                 connection: u32,
@@ -163,7 +163,7 @@ macro_rules! session {
                 <$session>::data_out(&mut self.0, connection, task, pdu)
             }
 
-            #[inline]
+            #[$inline]
             fn data_snack(
                 &mut self,
                 connection: u32,
@@ -178,7 +178,8 @@ macro_rules! session {
 }
 
 session!(
-    /// The hand-optimised one.
+    inline,
+    /// The hand-optimised one, a part of the loop that calls it.
     Fast,
     fast::session::Session,
     fast::task::Task,
@@ -186,7 +187,17 @@ session!(
     fast::task::Task::make
 );
 session!(
-    /// The proved one.
+    inline(never),
+    /// The hand-optimised one behind calls, as a library has it.
+    Called,
+    fast::session::Session,
+    fast::task::Task,
+    fast::session::Session::fresh,
+    fast::task::Task::make
+);
+session!(
+    inline,
+    /// The proved one, which is a library.
     Drawbevel,
     drawbevel::Session,
     drawbevel::Task,
@@ -194,6 +205,7 @@ session!(
     drawbevel::Task::new
 );
 session!(
+    inline,
     /// The model's.
     Modelled,
     Model,

@@ -1,6 +1,7 @@
 //! What a long transfer costs: the nanoseconds of one PDU of it, however much came before.
 
-use crate::data::{BURST, DATA, GIVEN, answering, numbered};
+use crate::cases::connection;
+use crate::data::{BURST, DATA, GIVEN, answering, numbered, used};
 use crate::timing::median;
 use bench::sessions::Session;
 use calls::{DataInPdu, HEADER_BYTES};
@@ -82,7 +83,7 @@ fn read<S: Session>(session: &mut S, _: &mut Burst, bytes: u64) {
             acknowledge: false,
             data_segment_length: DATA,
         };
-        let sent = session.data_in(0, &mut task, &mut out, pdu);
+        let sent = session.data_in(connection(), black_box(&mut task), &mut out, pdu);
         assert!(black_box(sent).is_ok());
         black_box(&out);
     }
@@ -94,7 +95,7 @@ fn write<S: Session>(session: &mut S, pdus: &mut Burst, bytes: u64) {
     let mut offset = 0;
     while offset < bytes {
         let burst = u64::from(BURST).min(bytes - offset) as u32;
-        let sent = session.r2t(0, &mut task, &mut out, 0x31, burst);
+        let sent = session.r2t(connection(), black_box(&mut task), &mut out, 0x31, burst);
         assert!(black_box(sent).is_ok());
         for data_sn in 0..burst / DATA {
             let is_last = data_sn == burst / DATA - 1;
@@ -104,8 +105,8 @@ fn write<S: Session>(session: &mut S, pdus: &mut Burst, bytes: u64) {
                 &mut pdus.middle
             };
             numbered(pdu, data_sn, offset as u32);
-            let came = session.data_out(0, &mut task, black_box(&pdu.0));
-            assert!(black_box(came).is_ok());
+            let came = session.data_out(connection(), black_box(&mut task), &black_box(&*pdu).0);
+            used(came.unwrap());
             offset += u64::from(DATA);
         }
     }

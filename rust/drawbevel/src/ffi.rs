@@ -377,13 +377,13 @@ impl Parts {
             drawbevel_core_data_out(
                 &self.numbers,
                 &self.maps,
+                connection,
+                pdu.as_ptr(),
+                pdu.len(),
                 &mut task.numbers,
                 &mut task.wide,
                 &task.tags,
                 &task.ends,
-                connection,
-                pdu.as_ptr(),
-                pdu.len(),
                 answer,
             );
         })
@@ -401,12 +401,12 @@ impl Parts {
             drawbevel_core_data_snack(
                 &self.numbers,
                 &self.maps,
-                &mut task.numbers,
-                &mut task.wide,
                 connection,
-                offset,
                 pdu.as_ptr(),
                 pdu.len(),
+                &mut task.numbers,
+                &mut task.wide,
+                offset,
                 answer,
             );
         })

@@ -1,41 +1,24 @@
--- `session_data_out::data_out` meets its contract: the outcomes of the connection, and on an open one the step on the task's record.
-use Prim.Native.Nat.{_≤_}
-use mathlib.Core.Path.{refl, sym, _∙_}
+-- `session_data_out::data_out` meets its contract: what judging says, and of a good one the step on the task's record.
 use borrow.Author.Needs.{needs}
-use Rattle.book.specs.Book.{noOutputs}
-use Rattle.task.specs.Agree.{dataOutStepOf}
-use Rattle.session_state.specs.Agree.{state}
-use Rattle.session_state.proofs.Steps.{refusing, reach-none, reach-closed, open-at, reach-open}
-use Rattle.session_state.proofs.Transfers.{as-transferred}
-use Rattle.session_data_out.proofs.Outcomes.{data-out-eq, data-out-live}
+use Rattle.task.specs.Agree.{recordOf}
+use Rattle.session_data_out.proofs.Outcomes.{data-out-refused}
 use Rattle.session_data_out.proofs.data_out.Statement.{statement}
 use Rattle.session_data_out.proofs.data_out.Tie as tie
 
 returns : tie.Need-returns
 returns c k ss =
-    let a = c .before .before .before .before .args in
-    let far : 4 ≤ a .conn = rw (c .enum-told .given .1) at (c .before .before .reach .ensures) in
-    refusing _ _ 7 noOutputs refl (λ b g. data-out-eq b _ _ _ _ ∙ reach-none b (a .conn) noOutputs _ far)
+    let a = c .before .before .before .args in
+    let x = recordOf (a .t) (a .tags .now) (a .ends .now) in
+    rw (data-out-refused x (a .pdu .now) _ (c .if1 .taken)) at (c .before .data-out-refusal .ensures .did x k ss)
+
+data-out-in-requires : tie.Need-data-out-in-requires
+data-out-in-requires c κs = c .before .data-out-refusal .ensures .long (c .if1 .left)
 
 returns-2 : tie.Need-returns-2
 returns-2 c k ss =
     let a = c .before .before .before .before .args in
-    let n = rw (c .enum-told2 .given .1) at (c .before .before .reach .ensures) in
-    refusing _ _ 8 noOutputs refl (λ b g. data-out-eq b _ _ _ _ ∙ reach-closed _ b (a .conn) noOutputs _ g (n .0) (n .1))
-
-returns-3 : tie.Need-returns-3
-returns-3 c k ss =
-    let reached = c .before .before .before .before in
-    let a = reached .before .before .args in
-    let i = rw (c .before .before .enum-told3 .given .1) at (reached .reach .ensures) in
-    as-transferred _ _ (dataOutStepOf (a .t) (a .tags .now) (a .ends .now) (c .read-data-out .result)) noOutputs refl (λ b g.
-    let v = open-at (state (a .s) k ss) b (a .conn) _ g i in
-    data-out-eq b _ _ _ _ ∙ reach-open b (a .conn) noOutputs _ (v .book) (v .near) (v .is)
-    ∙ data-out-live b (v .book) (a .t) (a .tags .now) (a .ends .now) _ (v .agrees .limits ∙ sym (c .before .limits-of .ensures)) _ (a .pdu .now)
-    (c .read-data-out .result) (c .read-data-out .ensures))
+    let x = recordOf (a .t) (a .tags .now) (a .ends .now) in
+    rw (c .data-out-in .ensures) (rw (c .before .if1 .left) at (c .before .before .data-out-refusal .ensures .did x k ss))
 
 pub data-out-spec : {M : Type 1} → statement M
-data-out-spec =
-    tie.close (tie.spec
-    (λ c κs. search needs) (λ c. search needs) (λ c. search needs) (λ c. search needs) (λ c κs. search needs) (λ c κs. search needs)
-    returns returns-2 returns-3)
+data-out-spec = tie.close (tie.spec (λ c κs. search needs) returns data-out-in-requires returns-2)

@@ -31,7 +31,7 @@ returns-3 c k ss ts es =
     as-transferred _ _ (dataSnackStepOf (a .t) ts es (c .read-data-snack .result)) noOutputs refl (λ b g.
     let v = open-at (state (a .s) k ss) b (a .conn) _ g i in
     data-snack-eq b _ _ _ _ _ ∙ reach-open b (a .conn) noOutputs _ (v .book) (v .near) (v .is)
-    ∙ data-snack-live b (v .book) (a .t) ts es _ (v .agrees .limits ∙ sym (c .before .limits-of .ensures)) _ (a .pdu .now) (a .offset) (a .s .level)
+    ∙ data-snack-live b (v .book) _ (v .agrees .limits ∙ sym (c .before .limits-of .ensures)) _ (a .pdu .now) (a .t) ts es (a .offset) (a .s .level)
     (c .read-data-snack .result) (g .level) (c .read-data-snack .ensures ts es))
 
 pub data-snack-spec : {M : Type 1} → statement M

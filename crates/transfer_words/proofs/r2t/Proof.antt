@@ -1,4 +1,3 @@
-use mathlib.Core.Path.{_∙_}
 use borrow.Author.Needs.{needs}
 use Rattle.transfer_words.proofs.Outcomes.{refused-moves, moved-moves, kept-record}
 use Rattle.transfer_words.proofs.r2t.Statement.{statement}
@@ -15,15 +14,15 @@ returns c k ss =
 
 returns-2 : tie.Need-returns-2
 returns-2 c k ss =
-    let call = c .before .before .before .before .before .before .before .before .before .before in
+    let call = c .before .before .before .before .before .before .before .before .before in
     let s = call .before .before .before .before .before .before .before .load .ensures in
     let t = call .before .before .before .before .load2 .ensures in
-    let kept = rw t at (c .before .store .ensures .2 ∙ c .before .before .after-r2t .ensures) in
-    moved-moves (rw (s, t, c .before .before .before .before .before .before .numbering .given .1) at (call .r2t .ensures .0 k ss)) (c .pack .ensures)
+    let kept = c .before .store-r2t .ensures in
+    moved-moves (rw (s, t, c .before .before .before .before .before .numbering .given .1) at (call .r2t .ensures .0 k ss)) (c .pack .ensures)
     (kept-record (call .r2t .last .1 .1 .1 .1 .1 .0) (call .r2t .last .1 .1 .1 .1 .1 .1 .0) kept)
 
 pub r2t-spec : {M : Type 1} → statement M
 r2t-spec =
     tie.close (tie.spec
     (λ c κs. search needs) (λ c κs. search needs) (λ c κs. search needs) (λ c. search needs) (λ c κs. search needs) (λ c. search needs)
-    (λ c κs. search needs) (λ c κs. search needs) (λ c κs. search needs) (λ c. search needs) returns (λ c. search needs) returns-2)
+    (λ c κs. search needs) (λ c κs. search needs) (λ c. search needs) returns (λ c. search needs) returns-2)

@@ -1,6 +1,6 @@
 //! A ledger as a ring of 32; a status's slot is its number mod 32.
 
-use super::write::put32;
+use super::write::{Words, put, put32};
 use calls::{HEADER_BYTES, Refusal, Run};
 
 #[derive(Clone)]
@@ -41,9 +41,9 @@ impl Ledger {
     }
 
     #[inline]
-    pub fn store(&mut self, header: &[u8; HEADER_BYTES], ticket: u32) {
+    pub fn store(&mut self, header: &Words, ticket: u32) {
         let slot = (self.next & 31) as usize;
-        self.headers[slot] = *header;
+        put(&mut self.headers[slot], header);
         self.tickets[slot] = ticket;
         self.next = self.next.wrapping_add(1);
         self.count += 1;

@@ -138,7 +138,16 @@ pub fn read(input: &[u8]) -> Result<Pdu, Refusal> {
             };
             Ok(pdu(h, data, 0, Request::Logout(logout)))
         }
-        _ => snack(h, data),
+        _ if !good_snack(h) => Err(Refusal::Field),
+        _ => {
+            let snack = Snack {
+                kind: flags & 0x0f,
+                ttt: be32(h, 20),
+                beg_run: be32(h, 40),
+                run_length: be32(h, 44),
+            };
+            Ok(without_number(h, data, Request::Snack(snack)))
+        }
     }
 }
 
@@ -175,26 +184,40 @@ fn without_number(h: &Header, data: Data, request: Request) -> Pdu {
     }
 }
 
+/// Whether a SNACK's fields are good.
 #[inline]
-fn snack(h: &Header, data: Data) -> Result<Pdu, Refusal> {
-    let (kind, itt, ttt) = (h[1] & 0x0f, be32(h, 16), be32(h, 20));
-    let good = match kind {
+fn good_snack(h: &Header) -> bool {
+    let (itt, ttt) = (be32(h, 16), be32(h, 20));
+    let tags = match h[1] & 0x0f {
         0 => ttt == NO_TAG,
         1 => itt == NO_TAG && ttt == NO_TAG,
         2 => itt == NO_TAG,
         3 => ttt != 0 && ttt != NO_TAG,
         _ => false,
     };
-    if !(plain(h) && good) {
-        return Err(Refusal::Field);
+    plain(h) && tags
+}
+
+/// A SNACK's header, where the PDU is one.
+#[inline]
+pub fn snack(input: &[u8]) -> Result<&Header, Refusal> {
+    let (h, _) = frame(input)?;
+    if h[0] & 0x3f == 0x10 && good_snack(h) {
+        Ok(h)
+    } else {
+        Err(Refusal::Field)
     }
-    let snack = Snack {
-        kind,
-        ttt,
-        beg_run: be32(h, 40),
-        run_length: be32(h, 44),
-    };
-    Ok(without_number(h, data, Request::Snack(snack)))
+}
+
+/// A Data-Out's header and the bytes of its data, where the PDU is one.
+#[inline]
+pub fn data_out(input: &[u8]) -> Result<(&Header, u32), Refusal> {
+    let (h, data) = frame(input)?;
+    if h[0] & 0x3f == 0x05 && h[4] == 0 {
+        Ok((h, data.length as u32))
+    } else {
+        Err(Refusal::Field)
+    }
 }
 
 /// What an offer needs of a PDU: whether it is read, of a kind that is offered, and immediate.

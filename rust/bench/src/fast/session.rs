@@ -1,13 +1,13 @@
 //! One window and four ledgers.
 
 use super::ledger::Ledger;
-use super::read::{be32, offered, read};
+use super::read::{self, be32, offered};
 use super::task::Task;
 use super::window::CommandWindow;
-use super::write::{MAX_DATA, header, judge};
+use super::write::{MAX_DATA, header, judge, put};
 use calls::{
     Came, DataInPdu, DataSnack, HEADER_BYTES, Holder, LogoutCounts, Numbers, Offer, Refusal,
-    Request, Response, Run, Take, Window,
+    Response, Run, Take, Window,
 };
 
 #[derive(Clone)]
@@ -127,9 +127,9 @@ impl Session {
         if matches!(response, Response::DataIn { .. } | Response::R2t { .. }) {
             return Err(Refusal::Field);
         }
-        let status = task.status(response)?;
+        let exp_data_sn = task.due(response)?;
         let stored = !matches!(
-            status,
+            *response,
             Response::NopIn {
                 itt: 0xffff_ffff,
                 ..
@@ -144,9 +144,13 @@ impl Session {
             exp_cmd_sn: window.exp_cmd_sn,
             max_cmd_sn: window.max_cmd_sn,
         };
-        *out = header(numbers, &status);
+        let mut words = header(numbers, response);
+        if matches!(response, Response::Scsi { .. }) {
+            words[4] = words[4] >> 32 << 32 | u64::from(exp_data_sn);
+        }
+        put(out, &words);
         if stored {
-            ledger.store(out, ticket);
+            ledger.store(&words, ticket);
         }
         Ok(stat_sn)
     }
@@ -160,11 +164,11 @@ impl Session {
     pub fn snack(&mut self, connection: u32, pdu: &[u8]) -> Result<Run, Refusal> {
         let level = self.level;
         let ledger = self.ledger(connection)?;
-        match read(pdu)?.request {
-            Request::Snack(s) if s.kind == 1 && level > 0 => ledger.run(s.beg_run, s.run_length),
-            Request::Snack(_) => Err(Refusal::Snack),
-            _ => Err(Refusal::Field),
+        let h = read::snack(pdu)?;
+        if h[1] & 0x0f != 1 || level == 0 {
+            return Err(Refusal::Snack);
         }
+        ledger.run(be32(h, 40), be32(h, 44))
     }
 
     #[inline]
@@ -213,7 +217,7 @@ impl Session {
         if pdu.data_segment_length > MAX_DATA {
             return Err(Refusal::TooLong);
         }
-        *out = header(numbers, &task.data_in(pdu)?);
+        put(out, &task.data_in(numbers, pdu)?);
         Ok(())
     }
 
@@ -230,7 +234,7 @@ impl Session {
             return Err(Refusal::Buffer);
         };
         let numbers = self.numbers(connection)?;
-        *out = header(numbers, &task.r2t(tag, length)?);
+        put(out, &task.r2t(numbers, tag, length)?);
         Ok(())
     }
 

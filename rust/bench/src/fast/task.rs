@@ -1,9 +1,9 @@
 //! A task's record: numbers, and the open R2Ts as a ring of 8.
 
-use super::read::{be32, read};
-use super::write::put32;
+use super::read::{self, be32};
+use super::write::{self, Words, put32, two};
 use calls::{
-    Came, DataInPdu, DataSnack, HEADER_BYTES, OpenR2t, Refusal, Request, Response, Run, TaskGiven,
+    Came, DataInPdu, DataSnack, HEADER_BYTES, Numbers, OpenR2t, Refusal, Response, Run, TaskGiven,
 };
 
 const NO_TAG: u32 = 0xffff_ffff;
@@ -121,7 +121,7 @@ impl Task {
 
     /// The next Data-In, which goes on the record.
     #[inline]
-    pub fn data_in(&mut self, pdu: DataInPdu) -> Result<Response, Refusal> {
+    pub fn data_in(&mut self, numbers: Numbers, pdu: DataInPdu) -> Result<Words, Refusal> {
         let length = u64::from(pdu.data_segment_length);
         let burst = u64::from(self.burst) + length;
         let end = self.offset.saturating_add(length);
@@ -138,26 +138,18 @@ impl Task {
         } else {
             (0, NO_TAG)
         };
-        let response = Response::DataIn {
-            final_bit: pdu.final_bit,
-            acknowledge: pdu.acknowledge,
-            data_segment_length: pdu.data_segment_length,
-            lun,
-            itt: self.itt,
-            ttt,
-            data_sn: self.sent,
-            buffer_offset: self.offset as u32,
-        };
+        let tags = two(self.itt, ttt);
+        let header = write::data_in(numbers, pdu, lun, tags, self.sent, self.offset as u32);
         self.sent += 1;
         self.any_data_in = true;
         self.offset = end;
         self.burst = if pdu.final_bit { 0 } else { burst as u32 };
-        Ok(response)
+        Ok(header)
     }
 
     /// The next R2T, which goes on the record.
     #[inline]
-    pub fn r2t(&mut self, tag: u32, length: u32) -> Result<Response, Refusal> {
+    pub fn r2t(&mut self, numbers: Numbers, tag: u32, length: u32) -> Result<Words, Refusal> {
         let end = self.asked.saturating_add(length.into());
         if tag == NO_TAG
             || length.wrapping_sub(1) >= self.max_burst
@@ -167,44 +159,36 @@ impl Task {
         {
             return Err(Refusal::Field);
         }
-        let response = Response::R2t {
-            lun: self.lun,
-            itt: self.itt,
-            ttt: tag,
-            r2t_sn: self.sent,
-            buffer_offset: self.asked as u32,
-            desired_data_transfer_length: length,
-        };
+        let asked = two(self.asked as u32, length);
+        let header = write::r2t(numbers, self.lun, two(self.itt, tag), self.sent, asked);
         self.ring[self.place(self.open)] = (tag, end);
         self.open += 1;
         self.sent += 1;
         self.asked = end;
-        Ok(response)
+        Ok(header)
     }
 
     /// A Data-Out, a whole PDU.
     #[inline]
     pub fn data_out(&mut self, pdu: &[u8]) -> Result<Came, Refusal> {
-        let pdu = read(pdu)?;
-        let Request::DataOut(data_out) = pdu.request else {
-            return Err(Refusal::Field);
-        };
+        let (h, count) = read::data_out(pdu)?;
         let (tag, last) = self.ring[self.place(0)];
-        let count = pdu.data.length as u32;
+        let offset = be32(h, 40);
+        let final_bit = h[1] & 0x80 != 0;
         let end = self.came.saturating_add(count.into());
         if self.open == 0
-            || pdu.itt != self.itt
-            || data_out.ttt != tag
-            || data_out.data_sn != self.data_sn
+            || be32(h, 16) != self.itt
+            || be32(h, 20) != tag
+            || be32(h, 36) != self.data_sn
             || self.data_sn == u32::MAX
-            || u64::from(data_out.buffer_offset) != self.came
+            || u64::from(offset) != self.came
             || end > last
-            || data_out.final_bit != (end == last)
+            || final_bit != (end == last)
         {
             return Err(Refusal::Field);
         }
         self.came = end;
-        if data_out.final_bit {
+        if final_bit {
             self.oldest = self.oldest.wrapping_add(1);
             self.open -= 1;
             self.data_sn = 0;
@@ -212,7 +196,7 @@ impl Task {
             self.data_sn += 1;
         }
         Ok(Came {
-            offset: data_out.buffer_offset,
+            offset,
             count,
             open: self.open,
         })
@@ -221,13 +205,11 @@ impl Task {
     /// A SNACK of type 0, 2 or 3, a whole PDU.
     #[inline]
     pub fn data_snack(&mut self, level: u8, offset: u32, pdu: &[u8]) -> Result<DataSnack, Refusal> {
-        let pdu = read(pdu)?;
-        let Request::Snack(snack) = pdu.request else {
-            return Err(Refusal::Field);
-        };
-        let due = match snack.kind {
-            0 | 3 => pdu.itt == self.itt,
-            2 => snack.ttt == self.tag && self.tag != NO_TAG,
+        let h = read::snack(pdu)?;
+        let (kind, ttt, beg_run, run_length) = (h[1] & 0x0f, be32(h, 20), be32(h, 40), be32(h, 44));
+        let due = match kind {
+            0 | 3 => be32(h, 16) == self.itt,
+            2 => ttt == self.tag && self.tag != NO_TAG,
             _ => false,
         };
         if !due {
@@ -240,13 +222,13 @@ impl Task {
             first: self.acknowledged.min(self.sent),
             count: self.sent.saturating_sub(self.acknowledged),
         };
-        let nothing_stated = snack.beg_run | snack.run_length == 0;
-        match snack.kind {
+        let nothing_stated = beg_run | run_length == 0;
+        match kind {
             0 if nothing_stated => Ok(DataSnack::Run(all)),
-            0 => self.run(snack.beg_run, snack.run_length),
-            2 if snack.beg_run > self.sent => Err(Refusal::Snack),
+            0 => self.run(beg_run, run_length),
+            2 if beg_run > self.sent => Err(Refusal::Snack),
             2 => {
-                let count = snack.beg_run.saturating_sub(self.acknowledged);
+                let count = beg_run.saturating_sub(self.acknowledged);
                 self.acknowledged += count;
                 Ok(DataSnack::Acknowledged(count))
             }
@@ -254,7 +236,7 @@ impl Task {
                 self.sent = self.acknowledged;
                 self.offset = offset.into();
                 self.burst = 0;
-                self.snack_tag = snack.ttt;
+                self.snack_tag = ttt;
                 Ok(DataSnack::Run(all))
             }
             _ => Err(Refusal::Snack),
@@ -291,24 +273,19 @@ impl Task {
         }
     }
 
-    /// A response as it is sent for this task.
+    /// The ExpDataSN with which a response goes for this task.
     #[inline]
-    pub fn status(&self, response: &Response) -> Result<Response, Refusal> {
-        let mut status = *response;
-        if let Response::Scsi {
-            response,
-            itt,
-            snack_tag,
-            exp_data_sn,
-            ..
-        } = &mut status
-        {
-            if *itt != self.itt || *snack_tag != self.snack_tag {
-                return Err(Refusal::Field);
-            }
-            *exp_data_sn = self.exp_data_sn(*response);
+    pub fn due(&self, response: &Response) -> Result<u32, Refusal> {
+        match *response {
+            Response::Scsi {
+                response,
+                itt,
+                snack_tag,
+                ..
+            } if itt == self.itt && snack_tag == self.snack_tag => Ok(self.exp_data_sn(response)),
+            Response::Scsi { .. } => Err(Refusal::Field),
+            _ => Ok(0),
         }
-        Ok(status)
     }
 
     /// What a resend renews in a stored SCSI Response.

@@ -1,24 +1,30 @@
 //! Writing by whole words.
 
-use calls::{HEADER_BYTES, Numbers, Refusal, Response};
+use calls::{DataInPdu, HEADER_BYTES, Numbers, Refusal, Response};
 
 pub const MAX_DATA: u32 = 8192;
 
 type Header = [u8; HEADER_BYTES];
-
-#[inline]
-fn put16(h: &mut Header, at: usize, value: u16) {
-    h[at..at + 2].copy_from_slice(&value.to_be_bytes());
-}
+/// A header as six big-endian words: so it goes from registers to where it is written.
+pub type Words = [u64; HEADER_BYTES / 8];
 
 #[inline]
 pub fn put32(h: &mut Header, at: usize, value: u32) {
     h[at..at + 4].copy_from_slice(&value.to_be_bytes());
 }
 
+/// Two numbers of 32 bits, one after the other.
 #[inline]
-fn put64(h: &mut Header, at: usize, value: u64) {
-    h[at..at + 8].copy_from_slice(&value.to_be_bytes());
+pub fn two(high: u32, low: u32) -> u64 {
+    u64::from(high) << 32 | u64::from(low)
+}
+
+#[inline]
+pub fn put(out: &mut Header, words: &Words) {
+    let (places, _) = out.as_chunks_mut::<8>();
+    for (place, word) in places.iter_mut().zip(words) {
+        *place = word.to_be_bytes();
+    }
 }
 
 #[inline]
@@ -27,7 +33,7 @@ pub fn write(out: &mut [u8], numbers: Numbers, response: &Response) -> Result<()
         return Err(Refusal::Buffer);
     };
     judge(response)?;
-    *out = header(numbers, response);
+    put(out, &header(numbers, response));
     Ok(())
 }
 
@@ -69,20 +75,18 @@ pub fn judge(response: &Response) -> Result<(), Refusal> {
 
 /// The header of a response that was judged good.
 #[inline]
-pub fn header(numbers: Numbers, response: &Response) -> Header {
-    let mut h = [0; HEADER_BYTES];
-    let mut stat_sn = numbers.stat_sn;
-    let (opcode, flags, two, three, length) = match *response {
+pub fn header(numbers: Numbers, response: &Response) -> Words {
+    let sns = two(numbers.stat_sn, numbers.exp_cmd_sn);
+    let max = numbers.max_cmd_sn;
+    match *response {
         Response::NopIn {
             data_segment_length,
             lun,
             itt,
             ttt,
         } => {
-            put64(&mut h, 8, lun);
-            put32(&mut h, 16, itt);
-            put32(&mut h, 20, ttt);
-            (0x20, 0x80, 0, 0, data_segment_length)
+            let first = two(0x2080_0000, data_segment_length);
+            [first, lun, two(itt, ttt), sns, two(max, 0), 0]
         }
         Response::Scsi {
             overflow,
@@ -95,16 +99,17 @@ pub fn header(numbers: Numbers, response: &Response) -> Header {
             residual,
             exp_data_sn,
         } => {
-            put32(&mut h, 16, itt);
-            put32(&mut h, 20, snack_tag);
-            put32(&mut h, 36, exp_data_sn);
-            put32(&mut h, 44, residual);
             let flags = 0x80 | u8::from(overflow) << 2 | u8::from(underflow) << 1;
-            (0x21, flags, response, status, data_segment_length)
+            let first = two(
+                u32::from_be_bytes([0x21, flags, response, status]),
+                data_segment_length,
+            );
+            let tags = two(itt, snack_tag);
+            [first, 0, tags, sns, two(max, exp_data_sn), residual.into()]
         }
         Response::TaskManagement { response, itt } => {
-            put32(&mut h, 16, itt);
-            (0x22, 0x80, response, 0, 0)
+            let first = two(u32::from_be_bytes([0x22, 0x80, response, 0]), 0);
+            [first, 0, two(itt, 0), sns, two(max, 0), 0]
         }
         Response::Login {
             csg,
@@ -117,12 +122,11 @@ pub fn header(numbers: Numbers, response: &Response) -> Header {
             status_class,
             status_detail,
         } => {
-            put64(&mut h, 8, isid << 16 | u64::from(tsih));
-            put32(&mut h, 16, itt);
-            h[36] = status_class;
-            h[37] = status_detail;
             let flags = u8::from(transit) << 7 | csg << 2 | nsg;
-            (0x23, flags, 0, 0, data_segment_length)
+            let first = two(u32::from_be_bytes([0x23, flags, 0, 0]), data_segment_length);
+            let names = isid << 16 | u64::from(tsih);
+            let status = u32::from_be_bytes([status_class, status_detail, 0, 0]);
+            [first, names, two(itt, 0), sns, two(max, status), 0]
         }
         Response::DataIn {
             final_bit,
@@ -134,16 +138,12 @@ pub fn header(numbers: Numbers, response: &Response) -> Header {
             data_sn,
             buffer_offset,
         } => {
-            put64(&mut h, 8, lun);
-            put64(&mut h, 16, u64::from(itt) << 32 | u64::from(ttt));
-            put64(
-                &mut h,
-                36,
-                u64::from(data_sn) << 32 | u64::from(buffer_offset),
-            );
-            stat_sn = 0;
-            let flags = u8::from(final_bit) << 7 | u8::from(acknowledge) << 6;
-            (0x25, flags, 0, 0, data_segment_length)
+            let pdu = DataInPdu {
+                final_bit,
+                acknowledge,
+                data_segment_length,
+            };
+            data_in(numbers, pdu, lun, two(itt, ttt), data_sn, buffer_offset)
         }
         Response::Logout {
             response,
@@ -151,10 +151,9 @@ pub fn header(numbers: Numbers, response: &Response) -> Header {
             time2wait,
             time2retain,
         } => {
-            put32(&mut h, 16, itt);
-            put16(&mut h, 40, time2wait);
-            put16(&mut h, 42, time2retain);
-            (0x26, 0x80, response, 0, 0)
+            let first = two(u32::from_be_bytes([0x26, 0x80, response, 0]), 0);
+            let times = u64::from(time2wait) << 48 | u64::from(time2retain) << 32;
+            [first, 0, two(itt, 0), sns, two(max, 0), times]
         }
         Response::R2t {
             lun,
@@ -164,22 +163,46 @@ pub fn header(numbers: Numbers, response: &Response) -> Header {
             buffer_offset,
             desired_data_transfer_length,
         } => {
-            put64(&mut h, 8, lun);
-            put64(&mut h, 16, u64::from(itt) << 32 | u64::from(ttt));
-            put32(&mut h, 36, r2t_sn);
-            put32(&mut h, 40, buffer_offset);
-            put32(&mut h, 44, desired_data_transfer_length);
-            (0x31, 0x80, 0, 0, 0)
+            let asked = two(buffer_offset, desired_data_transfer_length);
+            r2t(numbers, lun, two(itt, ttt), r2t_sn, asked)
         }
         Response::Reject { reason } => {
-            put32(&mut h, 16, 0xffff_ffff);
-            (0x3f, 0x80, reason, 0, 48)
+            let first = two(u32::from_be_bytes([0x3f, 0x80, reason, 0]), 48);
+            [first, 0, two(0xffff_ffff, 0), sns, two(max, 0), 0]
         }
-    };
-    put32(&mut h, 0, u32::from_be_bytes([opcode, flags, two, three]));
-    put32(&mut h, 4, length);
-    put32(&mut h, 24, stat_sn);
-    put32(&mut h, 28, numbers.exp_cmd_sn);
-    put32(&mut h, 32, numbers.max_cmd_sn);
-    h
+    }
+}
+
+/// A Data-In, which has no StatSN. `tags` is the ITT and the Target Transfer Tag.
+#[inline]
+pub fn data_in(
+    numbers: Numbers,
+    pdu: DataInPdu,
+    lun: u64,
+    tags: u64,
+    data_sn: u32,
+    offset: u32,
+) -> Words {
+    let flags = u32::from(pdu.final_bit) << 23 | u32::from(pdu.acknowledge) << 22;
+    [
+        two(0x2500_0000 | flags, pdu.data_segment_length),
+        lun,
+        tags,
+        numbers.exp_cmd_sn.into(),
+        two(numbers.max_cmd_sn, data_sn),
+        two(offset, 0),
+    ]
+}
+
+/// An R2T. `asked` is the Buffer Offset and the Desired Data Transfer Length.
+#[inline]
+pub fn r2t(numbers: Numbers, lun: u64, tags: u64, r2t_sn: u32, asked: u64) -> Words {
+    [
+        two(0x3180_0000, 0),
+        lun,
+        tags,
+        two(numbers.stat_sn, numbers.exp_cmd_sn),
+        two(numbers.max_cmd_sn, r2t_sn),
+        asked,
+    ]
 }

@@ -150,24 +150,24 @@ unsafe extern "C" {
     pub fn drawbevel_core_data_out(
         numbers: *const Numbers,
         maps: *const Maps,
+        connection: u32,
+        pdu: *const u8,
+        length: usize,
         task: *mut TaskNumbers,
         wide: *mut Wide,
         tags: *const Tags,
         ends: *const Ends,
-        connection: u32,
-        pdu: *const u8,
-        length: usize,
         answer: *mut Answer,
     );
     pub fn drawbevel_core_data_snack(
         numbers: *const Numbers,
         maps: *const Maps,
-        task: *mut TaskNumbers,
-        wide: *mut Wide,
         connection: u32,
-        offset: u32,
         pdu: *const u8,
         length: usize,
+        task: *mut TaskNumbers,
+        wide: *mut Wide,
+        offset: u32,
         answer: *mut Answer,
     );
     pub fn drawbevel_core_login_fresh(

@@ -209,7 +209,7 @@ impl Session {
         let (tt, te) = (&task.tags, &task.ends);
         let (at, length) = (pdu.as_ptr(), pdu.len());
         answer_of(|answer| unsafe {
-            drawbevel_core_data_out(n, m, tn, tw, tt, te, connection, at, length, answer);
+            drawbevel_core_data_out(n, m, connection, at, length, tn, tw, tt, te, answer);
         })
     }
 
@@ -218,7 +218,7 @@ impl Session {
         let (tn, tw) = (&mut task.numbers, &mut task.wide);
         let (at, length) = (pdu.as_ptr(), pdu.len());
         answer_of(|answer| unsafe {
-            drawbevel_core_data_snack(n, m, tn, tw, connection, offset, at, length, answer);
+            drawbevel_core_data_snack(n, m, connection, at, length, tn, tw, offset, answer);
         })
     }
 
