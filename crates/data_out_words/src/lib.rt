@@ -79,8 +79,8 @@ pub fn data_snack(
     let s = load(n, m);
     let t = task_words::load(task, wide);
     match session_data_out::data_snack(s, conn, t, offset, pdu) {
-        DataSnackAnswer::Refused(f) => {
-            *answer = answer_words::refused(f);
+        DataSnackAnswer::Refused(number) => {
+            *answer = answer_words::refused_by(number);
         }
         DataSnackAnswer::Run { first, count } => {
             *answer = answer_words::data_run(first, count);

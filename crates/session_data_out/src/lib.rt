@@ -3,13 +3,11 @@
 // in two steps, so that a caller whose record lies in words loads it only for a Data-Out that is judged good.
 use field::be32;
 use field::flag;
-use refusal::Refusal;
 use request_header::DataOut;
 use request_header::Limits;
 use request_header::Snack;
 use request_header::lengths::data_length;
 use request_refusal::refusal_before_field;
-use request_refusal::refusal_of;
 use request_rules::data_out_ok;
 use request_rules::snack_ok;
 use session_state::Reached;
@@ -139,10 +137,10 @@ fn read_data_snack(limits: Limits, level: u32, t: Task, offset: u32, pdu: &[u8])
 {
     let f = refusal_before_field(pdu, limits);
     if f != 0 {
-        return DataSnackAnswer::Refused(refusal_of(f));
+        return DataSnackAnswer::Refused(f as u32);
     }
     if (pdu[0] % 64 != 0x10) | !snack_ok(pdu) {
-        return DataSnackAnswer::Refused(Refusal::Field);
+        return DataSnackAnswer::Refused(FIELD);
     }
     data_snack_in(level, t, offset, pdu)
 }
@@ -155,8 +153,8 @@ pub fn data_snack(s: Session, conn: u32, t: Task, offset: u32, pdu: &[u8]) -> Da
         (state s k ss) (transferred (dataSnackStepOf t tags ends r)) noOutputs (state s k ss)) ⌝ }
 {
     match reach(s, conn) {
-        Reached::NoConn => DataSnackAnswer::Refused(Refusal::NoConn),
-        Reached::Closed => DataSnackAnswer::Refused(Refusal::Closed),
+        Reached::NoConn => DataSnackAnswer::Refused(NO_CONN),
+        Reached::Closed => DataSnackAnswer::Refused(CLOSED),
         Reached::Open(_) => {
             let limits = limits_of(s, conn);
             read_data_snack(limits, s.level, t, offset, pdu)

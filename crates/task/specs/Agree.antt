@@ -103,7 +103,7 @@ dataOutStepOf t ts es (O.Refused n) = refuse n (recordOf t ts es)
 dataOutStepOf t ts es (O.Came o n s i k) = step (came o n k) (recordOf (withDataOut t s i k) ts es)
 
 abbrev pub dataSnackStepOf : Task → (tags ends : List ℕ) → DataSnackAnswer → Step
-dataSnackStepOf t ts es (S.Refused f) = refuse (number f) (recordOf t ts es)
+dataSnackStepOf t ts es (S.Refused n) = refuse n (recordOf t ts es)
 dataSnackStepOf t ts es (S.Run b k) = step (run b k) (recordOf t ts es)
 dataSnackStepOf t ts es (S.Acknowledged k n) = step (acknowledged k) (recordOf (withNumbering t n) ts es)
 dataSnackStepOf t ts es (S.Restarted b k n s) = step (run b k) (recordOf (withDataIn t n s) ts es)

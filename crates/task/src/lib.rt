@@ -77,7 +77,8 @@ pub enum DataOutAnswer {
 
 // The run that is asked for; how many numbers are newly acknowledged; the run that is sent anew; and what is new of the record.
 pub enum DataSnackAnswer {
-    Refused(Refusal),
+    // As of a Data-Out.
+    Refused(u32),
     Run {
         first: u32,
         count: u32,

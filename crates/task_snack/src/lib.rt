@@ -1,6 +1,5 @@
 // SNACKs for a task's data: a run of Data-In and R2T asked for anew, a DataACK, and R-Data, after which all that isn't acknowledged is sent anew.
 use field::NONE;
-use refusal::Refusal;
 use request_header::Snack;
 use task::DataSnackAnswer;
 use task::Task;
@@ -11,6 +10,11 @@ ghost use mathlib.Core.List.{List};
 ghost use Prim.Native.Nat.{ℕ, _-_};
 ghost use Rattle.task_book.specs.Steps.{snackOk, dataRun, dataAcknowledged, dataRestarted, dataSnackStep};
 ghost use Rattle.task.specs.Agree.{recordOf, dataSnackStepOf};
+
+// The numbers of refusals.
+const FIELD: u32 = 3;
+
+const SNACK: u32 = 12;
 
 // Types of a SNACK.
 const DATA_OR_R2T: u8 = 0;
@@ -32,10 +36,10 @@ pub fn data_snack(
         ≡ dataSnackStep (recordOf t tags ends) level «initiator_task_tag» offset p) ⌝ }
 {
     if !snack_ok(t, initiator_task_tag, p) {
-        return DataSnackAnswer::Refused(Refusal::Field);
+        return DataSnackAnswer::Refused(FIELD);
     }
     if level == 0 {
-        return DataSnackAnswer::Refused(Refusal::Snack);
+        return DataSnackAnswer::Refused(SNACK);
     }
     if p.snack_type == DATA_OR_R2T {
         return data_run(t, p.beg_run, p.run_length);
@@ -74,10 +78,10 @@ fn data_run(t: Task, beg_run: u32, run_length: u32) -> DataSnackAnswer
         };
     }
     if beg_run < n.acknowledged {
-        return DataSnackAnswer::Refused(Refusal::Snack);
+        return DataSnackAnswer::Refused(SNACK);
     }
     if sent <= beg_run {
-        return DataSnackAnswer::Refused(Refusal::Snack);
+        return DataSnackAnswer::Refused(SNACK);
     }
     if run_length == 0 {
         return DataSnackAnswer::Run {
@@ -91,7 +95,7 @@ fn data_run(t: Task, beg_run: u32, run_length: u32) -> DataSnackAnswer
             count: run_length,
         }
     } else {
-        DataSnackAnswer::Refused(Refusal::Snack)
+        DataSnackAnswer::Refused(SNACK)
     }
 }
 
@@ -112,7 +116,7 @@ fn data_acknowledged(t: Task, beg_run: u32) -> DataSnackAnswer
 {
     let n = t.numbering;
     if n.sent < beg_run {
-        return DataSnackAnswer::Refused(Refusal::Snack);
+        return DataSnackAnswer::Refused(SNACK);
     }
     if n.acknowledged < beg_run {
         DataSnackAnswer::Acknowledged {
@@ -154,6 +158,6 @@ fn data_restarted(t: Task, offset: u32, p: Snack) -> DataSnackAnswer
             },
         }
     } else {
-        DataSnackAnswer::Refused(Refusal::Snack)
+        DataSnackAnswer::Refused(SNACK)
     }
 }

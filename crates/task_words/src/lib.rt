@@ -95,10 +95,10 @@ pub fn store_r2t(
     w: &mut [u64],
     numbering: Numbering,
     sequence: DataOutSequence,
-    open_count: u32,
+    opened: u32,
 )
     requires { ⌜ (length (now n) ≡ 12) × (length (now w) ≡ 4) ⌝ }
-    ensures { λ _. ⌜ taskOf (now (n .exit)) (now (w .exit)) ≡ withR2T (taskOf (now (n .entry)) (now (w .entry))) numbering sequence «open_count» ⌝ }
+    ensures { λ _. ⌜ taskOf (now (n .exit)) (now (w .exit)) ≡ withR2T (taskOf (now (n .entry)) (now (w .entry))) numbering sequence opened ⌝ }
 {
     let any_data_in = flag_word(numbering.any_data_in);
     n[4] = numbering.sent;
@@ -106,7 +106,7 @@ pub fn store_r2t(
     n[6] = any_data_in;
     n[7] = numbering.snack_tag;
     n[9] = sequence.data_sn;
-    n[11] = open_count;
+    n[11] = opened;
     w[2] = sequence.asked;
     w[3] = sequence.came;
 }

@@ -9,7 +9,7 @@ returns c k ss tags ends =
     let call = c .before .before .before .before in
     let s = call .before .before .before .before .load .ensures in
     let t = call .before .load2 .ensures in
-    refused-moves (rw (s, t, c .before .before .f .given .1) at (call .data-snack .ensures k ss tags ends)) (c .refused .ensures)
+    refused-moves (rw (s, t, c .before .before .number .given .1) at (call .data-snack .ensures k ss tags ends)) (c .refused-by .ensures)
 
 returns-2 : tie.Need-returns-2
 returns-2 c k ss tags ends =

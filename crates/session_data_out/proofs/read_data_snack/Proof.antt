@@ -1,10 +1,8 @@
 -- `session_data_out::read_data_snack` meets its contract: reading's refusals pass through, and past those before FIELD only a SNACK asks for data.
-use Prim.Native.Nat.{ℕ}
 use mathlib.Core.Path.{refl, sym, ap, _∙_}
 use borrow.Author.Needs.{needs}
-use Rattle.request_header.proofs.FieldRules.{refused-before, refused-number, long-past}
+use Rattle.request_header.proofs.FieldRules.{refused-before, long-past}
 use Rattle.request_refusal.proofs.OneKind.{denied, granted}
-use Rattle.task_book.specs.Steps.{refuse}
 use Rattle.task.specs.Agree.{recordOf}
 use Rattle.session_data_out.specs.Reading.{dataSnackRead}
 use Rattle.session_data_out.proofs.Outcomes.{snack-other, snack-good}
@@ -13,10 +11,10 @@ use Rattle.session_data_out.proofs.read_data_snack.Tie as tie
 
 returns : tie.Need-returns
 returns c ts es =
-    let a = c .before .before .before .before .args in
+    let a = c .before .before .before .args in
     let x = recordOf (a .t) ts es in
-    let e = refused-before _ _ (c .before .before .refusal-before-field .ensures) (c .before .if1 .taken) in
-    ap (λ (n : ℕ). refuse n x) (refused-number _ _ e (c .refusal-of .ensures)) ∙ sym (ap (dataSnackRead x (a .level) (a .offset)) e)
+    let e = refused-before _ _ (c .before .refusal-before-field .ensures) (c .if1 .taken) in
+    sym (ap (dataSnackRead x (a .level) (a .offset)) e)
 
 shared-slice-read-if2 : tie.Need-shared-slice-read-if2
 shared-slice-read-if2 c =
@@ -49,4 +47,4 @@ returns-3 c ts es =
 pub read-data-snack-spec : {M : Type 1} → statement M
 read-data-snack-spec =
     tie.close (tie.spec
-    (λ c κs. search needs) (λ c κs. search needs) returns shared-slice-read-if2 snack-ok-requires returns-2 data-snack-in-requires returns-3)
+    (λ c κs. search needs) (λ c. search needs) returns shared-slice-read-if2 snack-ok-requires returns-2 data-snack-in-requires returns-3)

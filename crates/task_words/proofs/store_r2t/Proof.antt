@@ -15,7 +15,7 @@ returns : tie.Need-returns
 returns c =
     let begun = c .before .before .before in
     let a = begun .args in
-    rw (c .flag-word .ensures) (r2t-kept (a .n .now) (a .w .now) (a .numbering) (a .sequence) (a .open-count) (begun .pre .0) (begun .pre .1))
+    rw (c .flag-word .ensures) (r2t-kept (a .n .now) (a .w .now) (a .numbering) (a .sequence) (a .opened) (begun .pre .0) (begun .pre .1))
 
 pub store-r2t-spec : {M : Type 1} → statement M
 store-r2t-spec =
