@@ -78,7 +78,7 @@ pub fn data_snack(
 {
     let s = load(n, m);
     let t = task_words::load(task, wide);
-    match session_data_out::data_snack(s, conn, t, offset, pdu) {
+    match session_data_snack::data_snack(s, conn, t, offset, pdu) {
         DataSnackAnswer::Refused(number) => {
             *answer = answer_words::refused_by(number);
         }

@@ -55,8 +55,8 @@ use Rattle.session_data_in.proofs.r2t.Reads as r2t-r
 use Rattle.session_data_in.proofs.r2t.Kinds as r2t-k
 use Rattle.session_data_out.proofs.data_out.Reads as data-out-r
 use Rattle.session_data_out.proofs.data_out.Kinds as data-out-k
-use Rattle.session_data_out.proofs.data_snack.Reads as data-snack-r
-use Rattle.session_data_out.proofs.data_snack.Kinds as data-snack-k
+use Rattle.session_data_snack.proofs.data_snack.Reads as data-snack-r
+use Rattle.session_data_snack.proofs.data_snack.Kinds as data-snack-k
 use Rattle.session_questions.proofs.window_numbers.Reads as numbers-r
 use Rattle.session_questions.proofs.window_numbers.Kinds as numbers-k
 use Rattle.session_questions.proofs.next_stat_sn.Reads as next-r

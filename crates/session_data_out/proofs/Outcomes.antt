@@ -1,29 +1,24 @@
--- The book's step at a Data-Out and at a SNACK for data: the step on the task's record that the PDU brings.
+-- The book's step at a Data-Out: the step on the task's record that the PDU brings.
 use Prim.Native.Nat.{ℕ, zero, suc}
-use mathlib.Core.Path.{_≡_, refl, sym, ap, _∙_}
+use mathlib.Core.Path.{_≡_, refl, ap, _∙_}
 use mathlib.Core.Bool.{Bool, true, false}
 use mathlib.Core.List.{List, [], _∷_}
 use Rattle.field.specs.Field.{pick, beAt}
 use Rattle.request_header.specs.declared.DataOut.{DataOut}
-use Rattle.request_header.specs.declared.Snack.{Snack}
 use Rattle.request_header.specs.declared.Limits.{Limits}
 use Rattle.request_header.specs.declared.Request.{Request}
 use Rattle.request_header.specs.declared.Request.the-variants as R
-use Rattle.request_header.specs.Kind.{ifDataOut, ifSnack}
+use Rattle.request_header.specs.Kind.{ifDataOut}
 use Rattle.request_header.specs.Request as Read
-use Rattle.request_header.specs.Request.{readPdu, got, pduOf, requestOf, known, dataOutOf, snackOf, dataLengthOf}
-use Rattle.request_refusal.proofs.OneKind.{not-data-out, not-snack}
+use Rattle.request_header.specs.Request.{readPdu, got, pduOf, requestOf, dataOutOf, dataLengthOf}
+use Rattle.request_refusal.proofs.OneKind.{not-data-out}
 use Rattle.task_book.specs.Record.{OpenR2T, Record}
 use Rattle.task_book.specs.Steps as T
 use Rattle.task_book.specs.Steps.{dataOutStep, dataOutAt, dataOutOk}
-use Rattle.task.specs.Agree.{dataSnackStepOf}
-use Rattle.task.specs.declared.Task.{Task}
-use Rattle.task.specs.declared.DataSnackAnswer.{DataSnackAnswer}
-use Rattle.task.specs.declared.DataSnackAnswer.the-variants as S
-use Rattle.book.specs.Book.{OpenConnection, Book, noOutputs, dataOut, dataSnack, transfer, Choice, step}
-use Rattle.book.specs.Book.{movedBy, dataOutBy, dataSnackBy, onConnection, transferBy, bookStep}
+use Rattle.book.specs.Book.{OpenConnection, Book, noOutputs, dataOut, transfer, Choice, step}
+use Rattle.book.specs.Book.{movedBy, dataOutBy, onConnection, transferBy, bookStep}
 use Rattle.session_state.specs.Transfer.{transferred}
-use Rattle.session_data_out.specs.Reading.{dataOutRead, dataOutJudged, dataSnackRead}
+use Rattle.session_data_out.specs.Reading.{dataOutRead, dataOutJudged}
 
 module _ (x : Record) (s : List ℕ) where
   pub data-out-other : (o : ℕ) → (o ≡ 0x05 → ⊥) → dataOutRead x (got (pduOf o s)) ≡ T.refuse 3 x
@@ -39,26 +34,12 @@ module _ (x : Record) (s : List ℕ) where
   data-out-refused zero h = absurd (h refl)
   data-out-refused (suc n) h = refl
 
-  module _ (v f : ℕ) where
-    pub snack-other : (o : ℕ) → known o ≡ true → (o ≡ 0x10 → ⊥) → dataSnackRead x v f (got (pduOf o s)) ≡ T.refuse 3 x
-    unfolding pduOf
-    snack-other o k h = not-snack s (T.refuse 3 x) (λ q. T.dataSnackStep x v (beAt s 16 4) f q) o k h
-
-    pub snack-good : T.dataSnackStep x v (beAt s 16 4) f (snackOf s) ≡ dataSnackRead x v f (got (pduOf 0x10 s))
-    unfolding pduOf requestOf
-    snack-good = refl
-
 -- ---- the book's step
 
 pub data-out-eq : (b : Book) (c : ℕ) (x : Record) (p : List ℕ) (z : Choice)
     → bookStep b (transfer c x (dataOut p)) z ≡ onConnection b c noOutputs (λ k. dataOutBy b x k (readPdu (k .limits) p))
 unfolding bookStep transferBy
 data-out-eq b c x p z = refl
-
-pub data-snack-eq : (b : Book) (c : ℕ) (x : Record) (f : ℕ) (p : List ℕ) (z : Choice)
-    → bookStep b (transfer c x (dataSnack f p)) z ≡ onConnection b c noOutputs (λ k. dataSnackBy b x f k (readPdu (k .limits) p))
-unfolding bookStep transferBy
-data-snack-eq b c x f p z = refl
 
 module _ (b : Book) (k : OpenConnection) where
   if-data-out : (f : DataOut → T.Step) (d : T.Step) (r : Request)
@@ -71,27 +52,12 @@ module _ (b : Book) (k : OpenConnection) where
   if-data-out f d (R.Logout q) = refl
   if-data-out f d (R.Snack q) = refl
 
-  if-snack : (f : Snack → T.Step) (d : T.Step) (r : Request)
-      → ifSnack (λ q. movedBy b noOutputs k (f q)) (movedBy b noOutputs k d) r ≡ movedBy b noOutputs k (ifSnack f d r)
-  if-snack f d (R.NopOut q) = refl
-  if-snack f d (R.ScsiCommand q) = refl
-  if-snack f d (R.TaskManagement q) = refl
-  if-snack f d (R.Login q) = refl
-  if-snack f d (R.DataOut q) = refl
-  if-snack f d (R.Logout q) = refl
-  if-snack f d (R.Snack q) = refl
-
   data-out-moved : (x : Record) (r : Read.Answer) → dataOutBy b x k r ≡ movedBy b noOutputs k (dataOutRead x r)
   unfolding movedBy
   data-out-moved x (Read.refused n) = refl
   data-out-moved x (Read.got p) = if-data-out (λ q. T.dataOutStep x (p .«initiator_task_tag») q (p .«data_segment_length»)) (T.refuse 3 x) (p .request)
 
-  snack-moved : (x : Record) (f : ℕ) (r : Read.Answer) → dataSnackBy b x f k r ≡ movedBy b noOutputs k (dataSnackRead x (b .given .level) f r)
-  unfolding movedBy
-  snack-moved x f (Read.refused n) = refl
-  snack-moved x f (Read.got p) = if-snack (λ q. T.dataSnackStep x (b .given .level) (p .«initiator_task_tag») f q) (T.refuse 3 x) (p .request)
-
-  -- neither writes
+  -- it writes nothing
   pick-moved : (ok : Bool) (f n j : ℕ) (y x : Record)
       → movedBy b noOutputs k (pick ok (T.step (T.came f n j) y) (T.refuse 3 x)) ≡ step (transferred (pick ok (T.step (T.came f n j) y) (T.refuse 3 x))) noOutputs b
   unfolding movedBy
@@ -110,22 +76,7 @@ module _ (b : Book) (k : OpenConnection) where
   out-moved x p zero = at-moved x (x .openR2Ts) (beAt p 16 4) (dataOutOf p) (dataLengthOf p)
   out-moved x p (suc n) = refl
 
-  asked-moved : (t : Task) (ts es : List ℕ) (r : DataSnackAnswer)
-      → movedBy b noOutputs k (dataSnackStepOf t ts es r) ≡ step (transferred (dataSnackStepOf t ts es r)) noOutputs b
-  unfolding movedBy
-  asked-moved t ts es (S.Refused f) = refl
-  asked-moved t ts es (S.Run f n) = refl
-  asked-moved t ts es (S.Acknowledged n m) = refl
-  asked-moved t ts es (S.Restarted f n m s) = refl
-
   module _ (m : Limits) (limits : k .limits ≡ m) (x : Record) (p : List ℕ) where
     pub data-out-live : (n : ℕ) → dataOutJudged x p n ≡ dataOutRead x (readPdu m p)
         → dataOutBy b x k (readPdu (k .limits) p) ≡ step (transferred (dataOutJudged x p n)) noOutputs b
     data-out-live n e = ap (λ (l : Limits). dataOutBy b x k (readPdu l p)) limits ∙ data-out-moved x (readPdu m p) ∙ rw (← e) (out-moved x p n)
-
-    module _ (t : Task) (ts es : List ℕ) where
-      pub data-snack-live : (f v : ℕ) (r : DataSnackAnswer) → v ≡ b .given .level → dataSnackStepOf t ts es r ≡ dataSnackRead x v f (readPdu m p)
-          → dataSnackBy b x f k (readPdu (k .limits) p) ≡ step (transferred (dataSnackStepOf t ts es r)) noOutputs b
-      data-snack-live f v r q e =
-          ap (λ (l : Limits). dataSnackBy b x f k (readPdu l p)) limits ∙ snack-moved x f (readPdu m p)
-          ∙ ap (λ (u : ℕ). movedBy b noOutputs k (dataSnackRead x u f (readPdu m p))) (sym q) ∙ rw (← e) (asked-moved t ts es r)

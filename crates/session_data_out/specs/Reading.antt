@@ -1,14 +1,14 @@
--- Of the inner functions: the step on a task's record that a PDU brings, by what reading says of it. FIELD for another kind.
+-- Of the inner functions: the step on a task's record that a PDU brings, by what reading says of it. FIELD for another kind than a Data-Out.
 use Prim.Native.Nat.{ℕ, zero, suc, _≤_}
 use mathlib.Core.Path.{_≡_}
 use mathlib.Core.List.{List}
 use lib.ListN.{length}
 use Rattle.field.specs.Field.{beAt}
-use Rattle.request_header.specs.Kind.{ifDataOut, ifSnack}
+use Rattle.request_header.specs.Kind.{ifDataOut}
 use Rattle.request_header.specs.Request as Read
 use Rattle.request_header.specs.Request.{dataOutOf, dataLengthOf}
 use Rattle.task_book.specs.Record.{Record}
-use Rattle.task_book.specs.Steps.{Step, refuse, dataOutStep, dataSnackStep}
+use Rattle.task_book.specs.Steps.{Step, refuse, dataOutStep}
 use Rattle.window.specs.Agree.{Commands}
 use Rattle.ledger.specs.Agree.{Statuses}
 use Rattle.book.specs.Book.{transfer, dataOut, noOutputs}
@@ -30,7 +30,3 @@ pub record JudgesDataOut (s : Session) (c : ℕ) (p : List ℕ) (number : ℕ) :
   pub long : number ≡ 0 → 48 ≤ length p
   pub did : (x : Record) (k : Commands) (ss : Statuses)
       → Did (transfer c x (dataOut p)) (state s k ss) (transferred (dataOutJudged x p number)) noOutputs (state s k ss)
-
-abbrev pub dataSnackRead : Record → (level offset : ℕ) → Read.Answer → Step
-dataSnackRead x v f (Read.refused n) = refuse n x
-dataSnackRead x v f (Read.got p) = ifSnack (λ q. dataSnackStep x v (p .«initiator_task_tag») f q) (refuse 3 x) (p .request)

@@ -1,4 +1,4 @@
--- `session_data_out::data_snack` meets its contract: the outcomes of the connection, and on an open one the step on the task's record.
+-- `session_data_snack::data_snack` meets its contract: the outcomes of the connection, and on an open one the step on the task's record.
 use Prim.Native.Nat.{_≤_}
 use mathlib.Core.Path.{refl, sym, _∙_}
 use borrow.Author.Needs.{needs}
@@ -7,9 +7,9 @@ use Rattle.task.specs.Agree.{dataSnackStepOf}
 use Rattle.session_state.specs.Agree.{state}
 use Rattle.session_state.proofs.Steps.{refusing, reach-none, reach-closed, open-at, reach-open}
 use Rattle.session_state.proofs.Transfers.{as-transferred}
-use Rattle.session_data_out.proofs.Outcomes.{data-snack-eq, data-snack-live}
-use Rattle.session_data_out.proofs.data_snack.Statement.{statement}
-use Rattle.session_data_out.proofs.data_snack.Tie as tie
+use Rattle.session_data_snack.proofs.Outcomes.{data-snack-eq, data-snack-live}
+use Rattle.session_data_snack.proofs.data_snack.Statement.{statement}
+use Rattle.session_data_snack.proofs.data_snack.Tie as tie
 
 returns : tie.Need-returns
 returns c k ss ts es =
@@ -31,7 +31,7 @@ returns-3 c k ss ts es =
     as-transferred _ _ (dataSnackStepOf (a .t) ts es (c .read-data-snack .result)) noOutputs refl (λ b g.
     let v = open-at (state (a .s) k ss) b (a .conn) _ g i in
     data-snack-eq b _ _ _ _ _ ∙ reach-open b (a .conn) noOutputs _ (v .book) (v .near) (v .is)
-    ∙ data-snack-live b (v .book) _ (v .agrees .limits ∙ sym (c .before .limits-of .ensures)) _ (a .pdu .now) (a .t) ts es (a .offset) (a .s .level)
+    ∙ data-snack-live b (v .book) (a .t) ts es _ (v .agrees .limits ∙ sym (c .before .limits-of .ensures)) _ (a .pdu .now) (a .offset) (a .s .level)
     (c .read-data-snack .result) (g .level) (c .read-data-snack .ensures ts es))
 
 pub data-snack-spec : {M : Type 1} → statement M

@@ -1,7 +1,7 @@
--- `session_data_out::data_snack_in` meets its contract.
+-- `session_data_snack::data_snack_in` meets its contract.
 use borrow.Author.Needs.{needs}
-use Rattle.session_data_out.proofs.data_snack_in.Statement.{statement}
-use Rattle.session_data_out.proofs.data_snack_in.Tie as tie
+use Rattle.session_data_snack.proofs.data_snack_in.Statement.{statement}
+use Rattle.session_data_snack.proofs.data_snack_in.Tie as tie
 
 returns : tie.Need-returns
 returns c ts es =

@@ -1,13 +1,13 @@
--- `session_data_out::read_data_snack` meets its contract: reading's refusals pass through, and past those before FIELD only a SNACK asks for data.
+-- `session_data_snack::read_data_snack` meets its contract: reading's refusals pass through, and past those before FIELD only a SNACK asks for data.
 use mathlib.Core.Path.{refl, sym, ap, _∙_}
 use borrow.Author.Needs.{needs}
 use Rattle.request_header.proofs.FieldRules.{refused-before, long-past}
 use Rattle.request_refusal.proofs.OneKind.{denied, granted}
 use Rattle.task.specs.Agree.{recordOf}
-use Rattle.session_data_out.specs.Reading.{dataSnackRead}
-use Rattle.session_data_out.proofs.Outcomes.{snack-other, snack-good}
-use Rattle.session_data_out.proofs.read_data_snack.Statement.{statement}
-use Rattle.session_data_out.proofs.read_data_snack.Tie as tie
+use Rattle.session_data_snack.specs.Reading.{dataSnackRead}
+use Rattle.session_data_snack.proofs.Outcomes.{snack-other, snack-good}
+use Rattle.session_data_snack.proofs.read_data_snack.Statement.{statement}
+use Rattle.session_data_snack.proofs.read_data_snack.Tie as tie
 
 returns : tie.Need-returns
 returns c ts es =
