@@ -2,11 +2,11 @@
 use field::HEADER_BYTES;
 use refusal::Refusal;
 use request_header::LIMITS;
+use response_from_words::response;
 use response_header::MAX_DATA;
 use response_header::Numbers;
 use response_header::Response;
 use response_words::FromWords;
-use response_words::response;
 use response_words::unfit_refusal;
 use response_writer::WriteAnswer;
 ghost use mathlib.Core.Path.{_≡_};

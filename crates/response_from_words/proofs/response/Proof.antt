@@ -1,8 +1,8 @@
 use borrow.Author.Needs.{needs}
 use borrow.Author.Tests.{ne-eqb}
 use Rattle.response_words.specs.ResponseWords.{responseOf}
-use Rattle.response_words.proofs.response.Statement.{statement}
-use Rattle.response_words.proofs.response.Tie as tie
+use Rattle.response_from_words.proofs.response.Statement.{statement}
+use Rattle.response_from_words.proofs.response.Tie as tie
 
 returns : tie.Need-returns
 unfolding responseOf

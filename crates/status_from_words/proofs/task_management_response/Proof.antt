@@ -1,9 +1,9 @@
 use borrow.Author.Needs.{needs}
 use native.Mathlib.Omega.{arith}
 use denote.Ref.{now}
 use Rattle.response_words.proofs.Fit.{task-management-words}
-use Rattle.response_words.proofs.task_management_response.Statement.{statement}
-use Rattle.response_words.proofs.task_management_response.Tie as tie
+use Rattle.status_from_words.proofs.task_management_response.Statement.{statement}
+use Rattle.status_from_words.proofs.task_management_response.Tie as tie
 
 cast-code : tie.Need-cast-t13
 cast-code c = omega (arith, task-management-words (now (c .before .before .before .args .w)) (c .if1 .taken) .0)

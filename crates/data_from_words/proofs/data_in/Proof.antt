@@ -1,9 +1,9 @@
 use borrow.Author.Needs.{needs}
 use native.Mathlib.Omega.{arith}
 use denote.Ref.{now}
 use Rattle.response_words.proofs.Fit.{data-in-words}
-use Rattle.response_words.proofs.data_in.Statement.{statement}
-use Rattle.response_words.proofs.data_in.Tie as tie
+use Rattle.data_from_words.proofs.data_in.Statement.{statement}
+use Rattle.data_from_words.proofs.data_in.Tie as tie
 
 cast-stated : tie.Need-cast-t43
 cast-stated c =

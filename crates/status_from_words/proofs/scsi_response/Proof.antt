@@ -1,9 +1,9 @@
 use borrow.Author.Needs.{needs}
 use native.Mathlib.Omega.{arith}
 use denote.Ref.{now}
 use Rattle.response_words.proofs.Fit.{scsi-words}
-use Rattle.response_words.proofs.scsi_response.Statement.{statement}
-use Rattle.response_words.proofs.scsi_response.Tie as tie
+use Rattle.status_from_words.proofs.scsi_response.Statement.{statement}
+use Rattle.status_from_words.proofs.scsi_response.Tie as tie
 
 cast-code : tie.Need-cast-t50
 cast-code c =

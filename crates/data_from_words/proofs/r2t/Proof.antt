@@ -1,9 +1,9 @@
 use borrow.Author.Needs.{needs}
 use native.Mathlib.Omega.{arith}
 use denote.Ref.{now}
 use Rattle.response_words.proofs.Fit.{r2t-words}
-use Rattle.response_words.proofs.r2t.Statement.{statement}
-use Rattle.response_words.proofs.r2t.Tie as tie
+use Rattle.data_from_words.proofs.r2t.Statement.{statement}
+use Rattle.data_from_words.proofs.r2t.Tie as tie
 
 cast-itt : tie.Need-cast-t31
 cast-itt c =

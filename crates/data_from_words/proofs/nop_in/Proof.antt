@@ -1,9 +1,9 @@
 use borrow.Author.Needs.{needs}
 use native.Mathlib.Omega.{arith}
 use denote.Ref.{now}
 use Rattle.response_words.proofs.Fit.{nop-in-words}
-use Rattle.response_words.proofs.nop_in.Statement.{statement}
-use Rattle.response_words.proofs.nop_in.Tie as tie
+use Rattle.data_from_words.proofs.nop_in.Statement.{statement}
+use Rattle.data_from_words.proofs.nop_in.Tie as tie
 
 cast-stated : tie.Need-cast-t21
 cast-stated c = omega (arith, nop-in-words (now (c .before .before .before .before .before .args .w)) (c .if1 .taken) .0 .0)

@@ -1,7 +1,7 @@
 use borrow.Author.Needs.{needs}
 use borrow.Author.Tests.{lt-ltb, le-ltb}
-use Rattle.response_words.proofs.reject.Statement.{statement}
-use Rattle.response_words.proofs.reject.Tie as tie
+use Rattle.data_from_words.proofs.reject.Statement.{statement}
+use Rattle.data_from_words.proofs.reject.Tie as tie
 
 returns : tie.Need-returns
 returns c = rw (lt-ltb _ _ (c .if1 .taken))
