@@ -15,10 +15,10 @@ use session_commands::OfferAnswer;
 use session_commands::TakeAnswer;
 use session_connections::LogoutAnswer;
 use session_connections::OpenAnswer;
+use session_send::SendAnswer;
 use session_state::Reached;
 use session_state::reach;
 use session_statuses::AcknowledgeAnswer;
-use session_statuses::SendAnswer;
 use session_words::close;
 use session_words::load;
 use session_words::store;
@@ -250,7 +250,7 @@ fn send_known(
         (sessionWords (now (n .exit)) (now (m .exit)) k (statusesIn (now (statuses .exit)) (now («status_tickets» .exit))))) ⌝ }
 {
     let s = load(n, m);
-    match session_statuses::send(s, conn, ticket, r, t, out, statuses, status_tickets) {
+    match session_send::send(s, conn, ticket, r, t, out, statuses, status_tickets) {
         SendAnswer::Refused(f) => answer_words::pack_refused(f),
         SendAnswer::Sent(stat_sn) => answer_words::pack(DONE, stat_sn),
         SendAnswer::Stored { stat_sn, ledger } => {

@@ -1,4 +1,4 @@
--- `session_statuses::send` meets its contract: the ledger's three outcomes.
+-- `session_send::send` meets its contract: the ledger's three outcomes.
 use Prim.Native.Nat.{_≤_}
 use mathlib.Core.Path.{refl, sym, _∙_}
 use borrow.Author.Needs.{needs}
@@ -7,9 +7,9 @@ use Rattle.ledger.specs.Agree.{statusesIn}
 use Rattle.task.specs.Agree.{recordOf}
 use Rattle.session_state.specs.Agree.{state}
 use Rattle.session_state.proofs.Steps.{met, refusing, lend-short, lend-long, reach-none, reach-closed, open-at, ledger-set}
-use Rattle.session_statuses.proofs.Outcomes.{send-eq, send-at, send-refused, send-unstored, send-stored, status-given}
-use Rattle.session_statuses.proofs.send.Statement.{statement}
-use Rattle.session_statuses.proofs.send.Tie as tie
+use Rattle.session_send.proofs.Outcomes.{send-eq, send-at, send-refused, send-unstored, send-stored, status-given}
+use Rattle.session_send.proofs.send.Statement.{statement}
+use Rattle.session_send.proofs.send.Tie as tie
 
 returns : tie.Need-returns
 returns c k ts es =
