@@ -2,10 +2,10 @@ use native.Mathlib.Omega.{arith}
 use lib.ListN.{length-set}
 use borrow.Author.Needs.{needs}
 use borrow.Author.Tests.{lt-ltb, le-ltb}
-use Rattle.session_words.specs.State.{ledgerNumbers}
-use Rattle.session_words.proofs.Kept.{ledger-kept, conn-far}
-use Rattle.session_words.proofs.store_ledger.Statement.{statement}
-use Rattle.session_words.proofs.store_ledger.Tie as tie
+use Rattle.session_changes.specs.Changes.{ledgerNumbers}
+use Rattle.session_changes.proofs.Kept.{ledger-kept, conn-far}
+use Rattle.session_changes.proofs.store_ledger.Statement.{statement}
+use Rattle.session_changes.proofs.store_ledger.Tie as tie
 
 slice-write-n-2 : tie.Need-slice-write-n-2
 slice-write-n-2 c = simp length-set (omega arith)

@@ -1,9 +1,9 @@
 use mathlib.Core.Path.{_≡_, refl}
 use lib.ListN.{length}
 use borrow.Author.Needs.{needs}
-use Rattle.session_words.proofs.Kept.{window-kept}
-use Rattle.session_words.proofs.store_window.Statement.{statement}
-use Rattle.session_words.proofs.store_window.Tie as tie
+use Rattle.session_changes.proofs.Kept.{window-kept}
+use Rattle.session_changes.proofs.store_window.Statement.{statement}
+use Rattle.session_changes.proofs.store_window.Tie as tie
 
 returns : tie.Need-returns
 returns c =

@@ -1,9 +1,9 @@
 use borrow.Author.Needs.{needs}
 use borrow.Author.Tests.{lt-ltb, le-ltb}
-use Rattle.session_words.specs.State.{shutNumbers}
-use Rattle.session_words.proofs.Kept.{all-closed, own-closed, none-closed}
-use Rattle.session_words.proofs.close.Statement.{statement}
-use Rattle.session_words.proofs.close.Tie as tie
+use Rattle.session_changes.specs.Changes.{shutNumbers}
+use Rattle.session_changes.proofs.Kept.{all-closed, own-closed, none-closed}
+use Rattle.session_changes.proofs.close.Statement.{statement}
+use Rattle.session_changes.proofs.close.Tie as tie
 
 returns : tie.Need-returns
 unfolding shutNumbers
