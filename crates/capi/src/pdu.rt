@@ -25,7 +25,7 @@ pub extern "C" fn drawbevel_core_read(
 ) -> u32
     ensures { λ r. ⌜ _≡_ {A = ReadWords} (record { answer = r; common = now (common .exit); own = now (own .exit) }) (readWords (readPdu limits (now (input .entry))) (now (common .entry)) (now (own .entry))) ⌝ }
 {
-    request_words::read(input, LIMITS, common, own)
+    pdu_words::read(input, LIMITS, common, own)
 }
 
 fn write_known(out: &mut [u8], r: Response, n: Numbers) -> u32

@@ -1,9 +1,9 @@
--- `request_words::read` meets its contract: past the refusals before FIELD each arm is its kind's, and the last is SNACK, the one opcode left.
+-- `pdu_words::read` meets its contract: past the refusals before FIELD each arm is its kind's, and the last is SNACK, the one opcode left.
 use borrow.Author.Needs.{needs}
 use Rattle.request_header.proofs.FieldRules.{known-last, known-past, long-past}
 use Rattle.request_words.proofs.Reading.{kind-decides, refused-words}
-use Rattle.request_words.proofs.read.Statement.{statement}
-use Rattle.request_words.proofs.read.Tie as tie
+use Rattle.pdu_words.proofs.read.Statement.{statement}
+use Rattle.pdu_words.proofs.read.Tie as tie
 
 returns : tie.Need-returns
 returns c = refused-words _ _ _ _ (c .before .refusal-before-field .ensures) (c .if1 .taken)
