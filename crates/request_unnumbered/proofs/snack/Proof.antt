@@ -1,6 +1,6 @@
 use borrow.Author.Needs.{needs}
-use Rattle.request_pdu.proofs.kinds.snack.Statement.{statement}
-use Rattle.request_pdu.proofs.kinds.snack.Tie as tie
+use Rattle.request_unnumbered.proofs.snack.Statement.{statement}
+use Rattle.request_unnumbered.proofs.snack.Tie as tie
 
 returns : tie.Need-returns
 returns c = rw (c .before .before .be32 .ensures, c .before .be322 .ensures, c .be323 .ensures)

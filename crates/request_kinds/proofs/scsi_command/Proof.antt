@@ -1,6 +1,6 @@
 use borrow.Author.Needs.{needs}
-use Rattle.request_pdu.proofs.kinds.scsi_command.Statement.{statement}
-use Rattle.request_pdu.proofs.kinds.scsi_command.Tie as tie
+use Rattle.request_kinds.proofs.scsi_command.Statement.{statement}
+use Rattle.request_kinds.proofs.scsi_command.Tie as tie
 
 returns : tie.Need-returns
 returns c =

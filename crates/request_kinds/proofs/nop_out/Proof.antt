@@ -1,6 +1,6 @@
 use borrow.Author.Needs.{needs}
-use Rattle.request_pdu.proofs.kinds.nop_out.Statement.{statement}
-use Rattle.request_pdu.proofs.kinds.nop_out.Tie as tie
+use Rattle.request_kinds.proofs.nop_out.Statement.{statement}
+use Rattle.request_kinds.proofs.nop_out.Tie as tie
 
 returns : tie.Need-returns
 returns c = rw (c .be32 .ensures)

@@ -1,7 +1,7 @@
 use Rattle.request_header.specs.Request.{pduOf}
 use borrow.Author.Needs.{needs}
-use Rattle.request_pdu.proofs.kinds.pdu.Statement.{statement}
-use Rattle.request_pdu.proofs.kinds.pdu.Tie as tie
+use Rattle.request_pdu.proofs.pdu.Statement.{statement}
+use Rattle.request_pdu.proofs.pdu.Tie as tie
 
 returns : tie.Need-returns
 unfolding pduOf

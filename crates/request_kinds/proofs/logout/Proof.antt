@@ -1,6 +1,6 @@
 use borrow.Author.Needs.{needs}
-use Rattle.request_pdu.proofs.kinds.logout.Statement.{statement}
-use Rattle.request_pdu.proofs.kinds.logout.Tie as tie
+use Rattle.request_kinds.proofs.logout.Statement.{statement}
+use Rattle.request_kinds.proofs.logout.Tie as tie
 
 returns : tie.Need-returns
 returns c = rw (c .be16 .ensures)

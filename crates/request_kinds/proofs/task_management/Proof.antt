@@ -1,6 +1,6 @@
 use borrow.Author.Needs.{needs}
-use Rattle.request_pdu.proofs.kinds.task_management.Statement.{statement}
-use Rattle.request_pdu.proofs.kinds.task_management.Tie as tie
+use Rattle.request_kinds.proofs.task_management.Statement.{statement}
+use Rattle.request_kinds.proofs.task_management.Tie as tie
 
 returns : tie.Need-returns
 returns c = rw (c .before .before .be32 .ensures, c .before .be322 .ensures, c .be323 .ensures)

@@ -1,6 +1,6 @@
 use borrow.Author.Needs.{needs}
-use Rattle.request_pdu.proofs.kinds.login.Statement.{statement}
-use Rattle.request_pdu.proofs.kinds.login.Tie as tie
+use Rattle.request_kinds.proofs.login.Statement.{statement}
+use Rattle.request_kinds.proofs.login.Tie as tie
 
 returns : tie.Need-returns
 returns c =

@@ -1,6 +1,6 @@
 use borrow.Author.Needs.{needs}
-use Rattle.request_pdu.proofs.kinds.cmd_sn.Statement.{statement}
-use Rattle.request_pdu.proofs.kinds.cmd_sn.Tie as tie
+use Rattle.request_unnumbered.proofs.cmd_sn.Statement.{statement}
+use Rattle.request_unnumbered.proofs.cmd_sn.Tie as tie
 
 returns : tie.Need-returns
 returns c = rw (c .if1 .taken)

@@ -1,6 +1,6 @@
 use borrow.Author.Needs.{needs}
-use Rattle.request_pdu.proofs.kinds.lun.Statement.{statement}
-use Rattle.request_pdu.proofs.kinds.lun.Tie as tie
+use Rattle.request_kinds.proofs.lun.Statement.{statement}
+use Rattle.request_kinds.proofs.lun.Tie as tie
 
 returns : tie.Need-returns
 returns c = rw (c .if1 .taken)

@@ -1,26 +1,23 @@
-// The fields of each kind of request.
+// The fields of each kind of request, by its opcode.
 use field::be;
 use field::be16;
 use field::be32;
 use field::flag;
-use request_header::DataOut;
 use request_header::Login;
 use request_header::Logout;
 use request_header::NopOut;
-use request_header::Pdu;
 use request_header::Request;
 use request_header::ScsiCommand;
-use request_header::Snack;
 use request_header::TaskManagement;
-use request_header::lengths::data_length;
-use request_header::lengths::data_start;
+use request_unnumbered::data_out;
+use request_unnumbered::snack;
 ghost use mathlib.Core.Path.{_≡_};
 ghost use mathlib.Core.Bool.{_||_};
 ghost use Prim.Native.Nat.{_≤_};
 ghost use lib.ListN.{length};
 ghost use lib.Dec.{eqb};
 ghost use Rattle.field.specs.Field.{beAt, pick};
-ghost use Rattle.request_header.specs.Request.{nopOutOf, scsiCommandOf, taskManagementOf, loginOf, dataOutOf, logoutOf, snackOf, requestOf, pduOf};
+ghost use Rattle.request_header.specs.Request.{nopOutOf, scsiCommandOf, taskManagementOf, loginOf, logoutOf, requestOf};
 
 fn nop_out(s: &[u8]) -> NopOut
     requires { ⌜ 48 ≤ length (now s) ⌝ }
@@ -78,18 +75,6 @@ fn login(s: &[u8]) -> Login
     }
 }
 
-fn data_out(s: &[u8]) -> DataOut
-    requires { ⌜ 48 ≤ length (now s) ⌝ }
-    ensures { λ r. ⌜ r ≡ dataOutOf (now (s .entry)) ⌝ }
-{
-    DataOut {
-        is_final: flag(s[1], 128),
-        target_transfer_tag: be32(s, 20),
-        data_sn: be32(s, 36),
-        buffer_offset: be32(s, 40),
-    }
-}
-
 fn logout(s: &[u8]) -> Logout
     requires { ⌜ 48 ≤ length (now s) ⌝ }
     ensures { λ r. ⌜ r ≡ logoutOf (now (s .entry)) ⌝ }
@@ -100,19 +85,8 @@ fn logout(s: &[u8]) -> Logout
     }
 }
 
-fn snack(s: &[u8]) -> Snack
-    requires { ⌜ 48 ≤ length (now s) ⌝ }
-    ensures { λ r. ⌜ r ≡ snackOf (now (s .entry)) ⌝ }
-{
-    Snack {
-        snack_type: s[1] % 16,
-        target_transfer_tag: be32(s, 20),
-        beg_run: be32(s, 40),
-        run_length: be32(s, 44),
-    }
-}
-
-fn request(s: &[u8], op: u8) -> Request
+// The request of an opcode.
+pub fn request(s: &[u8], op: u8) -> Request
     requires { ⌜ 48 ≤ length (now s) ⌝ }
     ensures { λ r. ⌜ r ≡ requestOf op (now (s .entry)) ⌝ }
 {
@@ -128,7 +102,7 @@ fn request(s: &[u8], op: u8) -> Request
 }
 
 // The LUN, which Login and Logout do not have.
-fn lun(s: &[u8], op: u8) -> u64
+pub fn lun(s: &[u8], op: u8) -> u64
     requires { ⌜ 48 ≤ length (now s) ⌝ }
     ensures { λ r. ⌜ r ≡ pick (eqb op 0x03 || eqb op 0x06) 0 (beAt (now (s .entry)) 8 8) ⌝ }
 {
@@ -136,34 +110,5 @@ fn lun(s: &[u8], op: u8) -> u64
         0
     } else {
         be(s, 8, 8)
-    }
-}
-
-// The CmdSN, which Data-Out and SNACK do not have.
-fn cmd_sn(s: &[u8], op: u8) -> u32
-    requires { ⌜ 48 ≤ length (now s) ⌝ }
-    ensures { λ r. ⌜ r ≡ pick (eqb op 0x05 || eqb op 0x10) 0 (beAt (now (s .entry)) 24 4) ⌝ }
-{
-    if (op == 0x05) | (op == 0x10) {
-        0
-    } else {
-        be32(s, 24)
-    }
-}
-
-pub(crate) fn pdu(s: &[u8], op: u8) -> Pdu
-    requires { ⌜ 48 ≤ length (now s) ⌝ }
-    ensures { λ r. ⌜ r ≡ pduOf op (now (s .entry)) ⌝ }
-{
-    let r = request(s, op);
-    Pdu {
-        immediate: flag(s[0], 64) & !((op == 0x05) | (op == 0x10)),
-        lun: lun(s, op),
-        initiator_task_tag: be32(s, 16),
-        cmd_sn: cmd_sn(s, op),
-        exp_stat_sn: be32(s, 28),
-        request: r,
-        data_start: data_start(s),
-        data_segment_length: data_length(s),
     }
 }

@@ -1,8 +1,8 @@
 use borrow.Author.Tests.{ne-eqb}
 use Rattle.request_header.specs.Request.{requestOf}
 use borrow.Author.Needs.{needs}
-use Rattle.request_pdu.proofs.kinds.request.Statement.{statement}
-use Rattle.request_pdu.proofs.kinds.request.Tie as tie
+use Rattle.request_kinds.proofs.request.Statement.{statement}
+use Rattle.request_kinds.proofs.request.Tie as tie
 
 returns : tie.Need-returns
 unfolding requestOf
