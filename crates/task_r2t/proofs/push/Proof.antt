@@ -1,13 +1,13 @@
--- `task_out::push` meets its contract: eight places and fewer than eight R2Ts, so the place after the latest is free.
+-- `task_r2t::push` meets its contract: eight places and fewer than eight R2Ts, so the place after the latest is free.
 use Prim.Native.Nat.{_+_, _%_}
 use mathlib.Core.Path.{_≡_}
 use native.Mathlib.Omega.{arith}
 use native.Mathlib.Numerals.{add-one}
 use borrow.Author.Needs.{needs}
 use Rattle.task.proofs.Ring.{open-push}
-use Rattle.task_out.specs.R2T.{Opened}
-use Rattle.task_out.proofs.push.Statement.{statement}
-use Rattle.task_out.proofs.push.Tie as tie
+use Rattle.task_r2t.specs.R2T.{Opened}
+use Rattle.task_r2t.proofs.push.Statement.{statement}
+use Rattle.task_r2t.proofs.push.Tie as tie
 
 returns : tie.Need-returns
 unfolding Opened

@@ -1,10 +1,10 @@
--- `task_out::r2t_sent` meets its contract.
+-- `task_r2t::r2t_sent` meets its contract.
 use mathlib.Core.Bool.{or-false}
 use borrow.Author.Needs.{needs}
 use Rattle.task_book.specs.Steps.{r2tStep, r2tHeader, afterR2T, numbered}
-use Rattle.task_out.specs.R2T.{Opened, R2TSent}
-use Rattle.task_out.proofs.r2t_sent.Statement.{statement}
-use Rattle.task_out.proofs.r2t_sent.Tie as tie
+use Rattle.task_r2t.specs.R2T.{Opened, R2TSent}
+use Rattle.task_r2t.proofs.r2t_sent.Statement.{statement}
+use Rattle.task_r2t.proofs.r2t_sent.Tie as tie
 
 returns : tie.Need-returns
 unfolding R2TSent Opened r2tStep r2tHeader afterR2T numbered

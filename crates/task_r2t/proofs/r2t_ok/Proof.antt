@@ -1,12 +1,12 @@
--- `task_out::r2t_ok` meets its contract: the count of open R2Ts is the length of their list.
+-- `task_r2t::r2t_ok` meets its contract: the count of open R2Ts is the length of their list.
 use Prim.Native.Nat.{_^_, _≤_}
 use native.Mathlib.Omega.{arith}
 use borrow.Author.Needs.{needs}
 use Rattle.task_book.specs.Steps.{r2tOk}
 use Rattle.task.proofs.Laws.{room}
 use Rattle.task.proofs.Ring.{open-length}
-use Rattle.task_out.proofs.r2t_ok.Statement.{statement}
-use Rattle.task_out.proofs.r2t_ok.Tie as tie
+use Rattle.task_r2t.proofs.r2t_ok.Statement.{statement}
+use Rattle.task_r2t.proofs.r2t_ok.Tie as tie
 
 returns : tie.Need-returns
 unfolding r2tOk

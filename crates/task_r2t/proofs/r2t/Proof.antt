@@ -1,12 +1,12 @@
--- `task_out::r2t` meets its contract.
+-- `task_r2t::r2t` meets its contract.
 use mathlib.Core.Path.{refl, sym, _∙_}
 use mathlib.Core.List.{[]}
 use borrow.Author.Needs.{needs}
 use Rattle.task_book.specs.Steps.{r2tStep}
-use Rattle.task_out.specs.R2T.{R2TSent}
-use Rattle.task_out.proofs.Laws.{r2t-fits}
-use Rattle.task_out.proofs.r2t.Statement.{statement}
-use Rattle.task_out.proofs.r2t.Tie as tie
+use Rattle.task_r2t.specs.R2T.{R2TSent}
+use Rattle.task_r2t.proofs.Laws.{r2t-fits}
+use Rattle.task_r2t.proofs.r2t.Statement.{statement}
+use Rattle.task_r2t.proofs.r2t.Tie as tie
 
 r2t-sent-requires : tie.Need-r2t-sent-requires
 r2t-sent-requires c κs = r2t-fits _ _ _ _ (c .before .r2t-ok .ensures [] []) (c .if1 .taken)
