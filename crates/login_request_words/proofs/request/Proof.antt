@@ -1,8 +1,8 @@
 use mathlib.Core.Path.{refl, sym, _∙_}
 use borrow.Author.Needs.{needs}
 use Rattle.login_words.proofs.Kept.{unmoved, areas-left}
-use Rattle.login_words.proofs.request.Statement.{statement}
-use Rattle.login_words.proofs.request.Tie as tie
+use Rattle.login_request_words.proofs.request.Statement.{statement}
+use Rattle.login_request_words.proofs.request.Tie as tie
 
 returns : tie.Need-returns
 returns c =
