@@ -85,7 +85,7 @@ pub fn resend(
                 numbering: numbering,
             };
             let c = conn as usize;
-            match ledger_held::resend(l, c, stat_sn, renewal, statuses, status_tickets, out) {
+            match ledger_resend::resend(l, c, stat_sn, renewal, statuses, status_tickets, out) {
                 Resent::NotHeld => ResendAnswer::Refused(Refusal::Snack),
                 Resent::Status(ticket) => ResendAnswer::Resent(ticket),
             }

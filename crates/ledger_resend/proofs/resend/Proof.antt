@@ -1,4 +1,4 @@
--- `ledger_held::resend` meets its contract: what is held lies in the slot of its number.
+-- `ledger_resend::resend` meets its contract: what is held lies in the slot of its number.
 use Prim.Native.Nat.{ℕ, _+_, _*_, _%_, _-_, _≤_}
 use mathlib.Core.Path.{_≡_, refl, _∙_}
 use mathlib.Core.List.{List, _++_}
@@ -10,8 +10,8 @@ use Rattle.ledger.specs.Book.{renewedFor, renewed}
 use Rattle.ledger.specs.Agree.{statusesIn}
 use Rattle.ledger.proofs.Laws.{renew-both, renewed-front, renew, length-renewed, headed-size, headed-rest, resend-missing, resend-found}
 use borrow.Author.Needs.{needs}
-use Rattle.ledger_held.proofs.resend.Statement.{statement}
-use Rattle.ledger_held.proofs.resend.Tie as tie
+use Rattle.ledger_resend.proofs.resend.Statement.{statement}
+use Rattle.ledger_resend.proofs.resend.Tie as tie
 
 size : (h : List ℕ) (j : ℕ) → j * 48 + 48 ≤ length h → length (inSlot h j) ≡ 48
 unfolding inSlot

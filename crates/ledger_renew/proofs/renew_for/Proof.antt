@@ -4,8 +4,8 @@ use lib.ListN.{getD}
 use native.Mathlib.Omega.{arith}
 use Rattle.ledger.specs.Book.{renewedFor}
 use Rattle.ledger.proofs.Laws.{length-tagged}
-use Rattle.ledger_held.proofs.renew_for.Statement.{statement}
-use Rattle.ledger_held.proofs.renew_for.Tie as tie
+use Rattle.ledger_renew.proofs.renew_for.Statement.{statement}
+use Rattle.ledger_renew.proofs.renew_for.Tie as tie
 
 returns : tie.Need-returns
 unfolding renewedFor

@@ -1,8 +1,8 @@
 use borrow.Author.Needs.{needs}
 use borrow.Author.Tests.{eq-eqb, ne-eqb}
 use Rattle.ledger.specs.Book.{withTag}
-use Rattle.ledger_held.proofs.put_tag.Statement.{statement}
-use Rattle.ledger_held.proofs.put_tag.Tie as tie
+use Rattle.ledger_renew.proofs.put_tag.Statement.{statement}
+use Rattle.ledger_renew.proofs.put_tag.Tie as tie
 
 returns : tie.Need-returns
 unfolding withTag
