@@ -2,8 +2,8 @@ use borrow.Author.Needs.{needs}
 use native.Mathlib.Omega.{arith}
 use denote.Ref.{now}
 use Rattle.response_words.proofs.Fit.{login-words}
-use Rattle.status_from_words.proofs.login_response.Statement.{statement}
-use Rattle.status_from_words.proofs.login_response.Tie as tie
+use Rattle.login_from_words.proofs.login_response.Statement.{statement}
+use Rattle.login_from_words.proofs.login_response.Tie as tie
 
 cast-csg : tie.Need-cast-t47
 cast-csg c =

@@ -2,8 +2,8 @@ use borrow.Author.Needs.{needs}
 use native.Mathlib.Omega.{arith}
 use denote.Ref.{now}
 use Rattle.response_words.proofs.Fit.{logout-words}
-use Rattle.status_from_words.proofs.logout_response.Statement.{statement}
-use Rattle.status_from_words.proofs.logout_response.Tie as tie
+use Rattle.login_from_words.proofs.logout_response.Statement.{statement}
+use Rattle.login_from_words.proofs.logout_response.Tie as tie
 
 cast-code : tie.Need-cast-t23
 cast-code c = omega (arith, logout-words (now (c .before .before .before .before .before .args .w)) (c .if1 .taken) .0 .0)
