@@ -17,7 +17,8 @@ use Rattle.session_connections.specs.declared.Closes.{Closes}
 use Rattle.response_words.specs.ResponseWords.{unfitRefusal}
 use Rattle.response_words.specs.declared.FromWords.{FromWords}
 use Rattle.response_words.specs.declared.FromWords.the-variants as F
-use Rattle.session_words.specs.State.{sessionOf, windowNumbers, windowMaps, ledgerNumbers, connNumbers, shutNumbers, sessionNumbers}
+use Rattle.session_words.specs.State.{sessionOf, windowMaps, sessionNumbers}
+use Rattle.session_changes.specs.Changes.{windowNumbers, ledgerNumbers, connNumbers, shutNumbers}
 use Rattle.answer_words.specs.Answer.{answerWords}
 use Rattle.task_words.specs.TaskWords.{TaskWords, recordIn}
 use Rattle.transfer_words.specs.Moves.{TaskAfter}

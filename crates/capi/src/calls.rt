@@ -6,25 +6,25 @@ use book::Given;
 use book::Opening;
 use field::HEADER_BYTES;
 use refusal::Refusal;
+use response_from_words::response;
 use response_header::MAX_DATA;
 use response_header::Response;
 use response_words::FromWords;
-use response_words::response;
 use response_words::unfit_refusal;
+use session_changes::close;
+use session_changes::store_conn;
+use session_changes::store_ledger;
+use session_changes::store_window;
 use session_commands::OfferAnswer;
 use session_commands::TakeAnswer;
 use session_connections::LogoutAnswer;
 use session_connections::OpenAnswer;
+use session_send::SendAnswer;
 use session_state::Reached;
 use session_state::reach;
 use session_statuses::AcknowledgeAnswer;
-use session_statuses::SendAnswer;
-use session_words::close;
 use session_words::load;
 use session_words::store;
-use session_words::store_conn;
-use session_words::store_ledger;
-use session_words::store_window;
 use task::Task;
 ghost use mathlib.Core.Path.{_≡_};
 ghost use mathlib.Core.List.{List};
@@ -250,7 +250,7 @@ fn send_known(
         (sessionWords (now (n .exit)) (now (m .exit)) k (statusesIn (now (statuses .exit)) (now («status_tickets» .exit))))) ⌝ }
 {
     let s = load(n, m);
-    match session_statuses::send(s, conn, ticket, r, t, out, statuses, status_tickets) {
+    match session_send::send(s, conn, ticket, r, t, out, statuses, status_tickets) {
         SendAnswer::Refused(f) => answer_words::pack_refused(f),
         SendAnswer::Sent(stat_sn) => answer_words::pack(DONE, stat_sn),
         SendAnswer::Stored { stat_sn, ledger } => {

@@ -40,5 +40,5 @@ pub extern "C" fn drawbevel_core_login(
         (now (pdu .entry)) live new (now (ours .entry)) (now (gather .entry)) (now (text .entry)))
         (now (answer .exit)) (loginWords (now (n .exit)) (now (values .exit)) (now (seen .exit))) (now (gather .exit)) (now (text .exit)) ⌝ }
 {
-    login_words::request(n, values, seen, pdu, live, new, ours, gather, text, answer);
+    login_request_words::request(n, values, seen, pdu, live, new, ours, gather, text, answer);
 }

@@ -2,11 +2,11 @@
 use field::HEADER_BYTES;
 use refusal::Refusal;
 use request_header::LIMITS;
+use response_from_words::response;
 use response_header::MAX_DATA;
 use response_header::Numbers;
 use response_header::Response;
 use response_words::FromWords;
-use response_words::response;
 use response_words::unfit_refusal;
 use response_writer::WriteAnswer;
 ghost use mathlib.Core.Path.{_≡_};
@@ -25,7 +25,7 @@ pub extern "C" fn drawbevel_core_read(
 ) -> u32
     ensures { λ r. ⌜ _≡_ {A = ReadWords} (record { answer = r; common = now (common .exit); own = now (own .exit) }) (readWords (readPdu limits (now (input .entry))) (now (common .entry)) (now (own .entry))) ⌝ }
 {
-    request_words::read(input, LIMITS, common, own)
+    pdu_words::read(input, LIMITS, common, own)
 }
 
 fn write_known(out: &mut [u8], r: Response, n: Numbers) -> u32

@@ -1,7 +1,7 @@
 // A connection's status ledger: the next StatSN and the statuses that are sent and not acknowledged. What a call changes
 // is a small struct by value and two arrays that the caller lends, which the four connections share: connection c has
-// the slots from 32 * c on, and a status lies in the slot of its number modulo 32. The calls stand above: `ledger_send`,
-// and `ledger_held` for what is held.
+// the slots from 32 * c on, and a status lies in the slot of its number modulo 32. The calls stand above: `ledger_send`;
+// `ledger_held` and `ledger_resend` for what is held.
 use refusal::Refusal;
 use task_book::Numbering;
 ghost use Rattle.ledger.specs.Agree.{Opened};

@@ -1,17 +1,13 @@
-// A login between requests as words, eight numbers, its settled values and which keys came; and a request on it, with its answer in
-// words.
+// A login between requests as words, eight numbers, its settled values and which keys came; and the words of its answers.
 use key_table::parameters::Parameters;
 use key_table::parameters::Settled;
-use login::request::login_request;
 use login_types::state::Answer;
 use login_types::state::State;
 use refusal::number_of;
 use refusal::status_of;
 use words::flag;
 ghost use mathlib.Core.Path.{_≡_};
-ghost use Rattle.login_book.specs.Login.{loginStep};
-ghost use Rattle.login_types.specs.Agree.{bookOf};
-ghost use Rattle.login_words.specs.Login.{loginWords, loginFits, loginOf, wordsOf, loginAnswerWords, changesNothing, LoginSaid};
+ghost use Rattle.login_words.specs.Login.{loginWords, loginFits, loginOf, wordsOf, loginAnswerWords, changesNothing};
 
 // One more than the greatest value of a field of 8 bits, and of 16.
 const WIDE_8: u64 = 0x100;
@@ -27,7 +23,7 @@ fn numbers_fit(n: &[u64; 8]) -> bool
 }
 
 // The login that the numbers, values and keys are; numbers that are those of none stand for a login that is over.
-fn load(n: &[u64; 8], values: &[u32; 12], seen: &[bool; 28]) -> State
+pub fn load(n: &[u64; 8], values: &[u32; 12], seen: &[bool; 28]) -> State
     ensures { λ r. ⌜ r ≡ loginOf (loginWords (now (n .entry)) (now (values .entry)) (now (seen .entry))) ⌝ }
 {
     let v = *values;
@@ -91,7 +87,7 @@ pub fn store(n: &mut [u64; 8], values: &mut [u32; 12], seen: &mut [bool; 28], l:
 }
 
 // The answer in seven words: the refusal's number or 0, its status, the stage, T, CSG, NSG and TSIH, and the length of the text.
-fn answer_in_words(a: Answer) -> [u64; 8]
+pub fn answer_in_words(a: Answer) -> [u64; 8]
     ensures { λ w. ⌜ w ≡ loginAnswerWords a ⌝ }
 {
     match a {
@@ -110,40 +106,11 @@ fn answer_in_words(a: Answer) -> [u64; 8]
 }
 
 // Whether an answer leaves the login: every refusal does but 6.
-fn changes_nothing(a: Answer) -> bool
+pub fn changes_nothing(a: Answer) -> bool
     ensures { λ r. ⌜ r ≡ changesNothing a ⌝ }
 {
     match a {
         Answer::Refused(f) => number_of(f) != 6,
         Answer::Accepted(_) => false,
     }
-}
-
-// One login request.
-pub fn request(
-    n: &mut [u64; 8],
-    values: &mut [u32; 12],
-    seen: &mut [bool; 28],
-    pdu: &[u8],
-    live: u16,
-    new: u16,
-    ours: &[u8],
-    gather: &mut [u8],
-    text: &mut [u8],
-    answer: &mut [u64; 8],
-)
-    ensures { λ _. ⌜ LoginSaid (loginWords (now (n .entry)) (now (values .entry)) (now (seen .entry))) (now (gather .entry)) (now (text .entry))
-        (loginStep (bookOf (loginOf (loginWords (now (n .entry)) (now (values .entry)) (now (seen .entry)))))
-        (now (pdu .entry)) live new (now (ours .entry)) (now (gather .entry)) (now (text .entry)))
-        (now (answer .exit)) (loginWords (now (n .exit)) (now (values .exit)) (now (seen .exit))) (now (gather .exit)) (now (text .exit)) ⌝ }
-{
-    let l = load(n, values, seen);
-    let step = login_request(l, pdu, live, new, ours, gather, text);
-    let after = step.state;
-    let a = step.answer;
-    *answer = answer_in_words(a);
-    if changes_nothing(a) {
-        return;
-    }
-    store(n, values, seen, after);
 }

@@ -1,29 +1,28 @@
-// A request read into words, from the bytes of its header. Each kind is judged and written in its own branch.
+// Requests as words: what all kinds share, and the two that bear no CmdSN, Data-Out and SNACK, judged and written from the bytes of a header.
 use field::be;
-use request_header::Limits;
 use request_header::lengths::data_length;
 use request_header::lengths::data_start;
-use request_refusal::refusal_before_field;
 use request_rules::data_out_ok;
-use request_rules::login_ok;
-use request_rules::logout_ok;
-use request_rules::nop_out_ok;
-use request_rules::scsi_command_ok;
 use request_rules::snack_ok;
-use request_rules::task_management_ok;
 ghost use mathlib.Core.Path.{_≡_};
-ghost use mathlib.Core.Bool.{true};
 ghost use mathlib.Core.List.{[], _∷_};
 ghost use Prim.Native.Nat.{_≤_, _<_};
 ghost use lib.ListN.{length};
 ghost use Rattle.field.specs.Field.{beAt, byte, bit};
 ghost use Rattle.request_header.specs.declared.Limits.{Limits};
-ghost use Rattle.request_header.specs.Request.{readPdu, dataStartOf, dataLengthOf};
+ghost use Rattle.request_header.specs.Request.{dataStartOf, dataLengthOf};
 ghost use Rattle.words.specs.Words.{flagWord};
-ghost use Rattle.request_words.specs.RequestWords.{ReadWords, readWords, kindWords};
+ghost use Rattle.request_words.specs.RequestWords.{ReadWords, kindWords};
 
 // The opcode, the common fields and the place of the data segment.
-fn put_common(s: &[u8], opcode: u64, immediate: u64, cmd_sn: u64, lun: u64, common: &mut [u64; 8])
+pub fn put_common(
+    s: &[u8],
+    opcode: u64,
+    immediate: u64,
+    cmd_sn: u64,
+    lun: u64,
+    common: &mut [u64; 8],
+)
     requires { ⌜ 48 ≤ length (now s) ⌝ }
     ensures { λ _. ⌜ now (common .exit) ≡ opcode ∷ immediate ∷ «cmd_sn» ∷ lun ∷ beAt (now (s .entry)) 16 4 ∷ beAt (now (s .entry)) 28 4 ∷ dataStartOf (now (s .entry)) ∷ dataLengthOf (now (s .entry)) ∷ [] ⌝ }
 {
@@ -40,101 +39,22 @@ fn put_common(s: &[u8], opcode: u64, immediate: u64, cmd_sn: u64, lun: u64, comm
 }
 
 // The bit of b whose weight is k, as a word.
-fn bit_word(b: u64, k: u64) -> u64
+pub fn bit_word(b: u64, k: u64) -> u64
     requires { ⌜ 0 < k ⌝ }
     ensures { λ r. ⌜ r ≡ flagWord (bit b k) ⌝ }
 {
     b / k % 2
 }
 
-fn immediate(s: &[u8]) -> u64
+// The bit I.
+pub fn immediate(s: &[u8]) -> u64
     requires { ⌜ 48 ≤ length (now s) ⌝ }
     ensures { λ r. ⌜ r ≡ flagWord (bit (byte (now (s .entry)) 0) 64) ⌝ }
 {
     bit_word(be(s, 0, 1), 64)
 }
 
-fn nop_out(s: &[u8], common: &mut [u64; 8], own: &mut [u64; 9]) -> u32
-    requires { ⌜ 48 ≤ length (now s) ⌝ }
-    ensures { λ r. ⌜ ((m : Limits) → _≡_ {A = ReadWords} (record { answer = r; common = now (common .exit); own = now (own .exit) }) (kindWords m 0x00 (now (s .entry)) (now (common .entry)) (now (own .entry)))) ⌝ }
-{
-    if !nop_out_ok(s) {
-        return 3;
-    }
-    put_common(s, 0x00, immediate(s), be(s, 24, 4), be(s, 8, 8), common);
-    *own = [be(s, 20, 4), 0, 0, 0, 0, 0, 0, 0, 0];
-    0
-}
-
-fn scsi_command(s: &[u8], common: &mut [u64; 8], own: &mut [u64; 9]) -> u32
-    requires { ⌜ 48 ≤ length (now s) ⌝ }
-    ensures { λ r. ⌜ ((m : Limits) → _≡_ {A = ReadWords} (record { answer = r; common = now (common .exit); own = now (own .exit) }) (kindWords m 0x01 (now (s .entry)) (now (common .entry)) (now (own .entry)))) ⌝ }
-{
-    if !scsi_command_ok(s) {
-        return 3;
-    }
-    put_common(s, 0x01, immediate(s), be(s, 24, 4), be(s, 8, 8), common);
-    let b = be(s, 1, 1);
-    *own = [
-        bit_word(b, 128),
-        bit_word(b, 64),
-        bit_word(b, 32),
-        b % 8,
-        be(s, 4, 1),
-        be(s, 20, 4),
-        be(s, 32, 8),
-        be(s, 40, 8),
-        0,
-    ];
-    0
-}
-
-fn task_management(s: &[u8], limits: Limits, common: &mut [u64; 8], own: &mut [u64; 9]) -> u32
-    requires { ⌜ 48 ≤ length (now s) ⌝ }
-    ensures { λ r. ⌜ _≡_ {A = ReadWords} (record { answer = r; common = now (common .exit); own = now (own .exit) }) (kindWords limits 0x02 (now (s .entry)) (now (common .entry)) (now (own .entry))) ⌝ }
-{
-    if !task_management_ok(s, limits) {
-        return 3;
-    }
-    put_common(s, 0x02, immediate(s), be(s, 24, 4), be(s, 8, 8), common);
-    *own = [
-        be(s, 1, 1) % 128,
-        be(s, 20, 4),
-        be(s, 32, 4),
-        be(s, 36, 4),
-        0,
-        0,
-        0,
-        0,
-        0,
-    ];
-    0
-}
-
-fn login(s: &[u8], common: &mut [u64; 8], own: &mut [u64; 9]) -> u32
-    requires { ⌜ 48 ≤ length (now s) ⌝ }
-    ensures { λ r. ⌜ ((m : Limits) → _≡_ {A = ReadWords} (record { answer = r; common = now (common .exit); own = now (own .exit) }) (kindWords m 0x03 (now (s .entry)) (now (common .entry)) (now (own .entry)))) ⌝ }
-{
-    if !login_ok(s) {
-        return 3;
-    }
-    put_common(s, 0x03, immediate(s), be(s, 24, 4), 0, common);
-    let b = be(s, 1, 1);
-    *own = [
-        bit_word(b, 128),
-        bit_word(b, 64),
-        b / 4 % 4,
-        b % 4,
-        be(s, 2, 1),
-        be(s, 3, 1),
-        be(s, 8, 6),
-        be(s, 14, 2),
-        be(s, 20, 2),
-    ];
-    0
-}
-
-fn data_out(s: &[u8], common: &mut [u64; 8], own: &mut [u64; 9]) -> u32
+pub fn data_out(s: &[u8], common: &mut [u64; 8], own: &mut [u64; 9]) -> u32
     requires { ⌜ 48 ≤ length (now s) ⌝ }
     ensures { λ r. ⌜ ((m : Limits) → _≡_ {A = ReadWords} (record { answer = r; common = now (common .exit); own = now (own .exit) }) (kindWords m 0x05 (now (s .entry)) (now (common .entry)) (now (own .entry)))) ⌝ }
 {
@@ -156,19 +76,7 @@ fn data_out(s: &[u8], common: &mut [u64; 8], own: &mut [u64; 9]) -> u32
     0
 }
 
-fn logout(s: &[u8], common: &mut [u64; 8], own: &mut [u64; 9]) -> u32
-    requires { ⌜ 48 ≤ length (now s) ⌝ }
-    ensures { λ r. ⌜ ((m : Limits) → _≡_ {A = ReadWords} (record { answer = r; common = now (common .exit); own = now (own .exit) }) (kindWords m 0x06 (now (s .entry)) (now (common .entry)) (now (own .entry)))) ⌝ }
-{
-    if !logout_ok(s) {
-        return 3;
-    }
-    put_common(s, 0x06, immediate(s), be(s, 24, 4), 0, common);
-    *own = [be(s, 1, 1) % 128, be(s, 20, 2), 0, 0, 0, 0, 0, 0, 0];
-    0
-}
-
-fn snack(s: &[u8], common: &mut [u64; 8], own: &mut [u64; 9]) -> u32
+pub fn snack(s: &[u8], common: &mut [u64; 8], own: &mut [u64; 9]) -> u32
     requires { ⌜ 48 ≤ length (now s) ⌝ }
     ensures { λ r. ⌜ ((m : Limits) → _≡_ {A = ReadWords} (record { answer = r; common = now (common .exit); own = now (own .exit) }) (kindWords m 0x10 (now (s .entry)) (now (common .entry)) (now (own .entry)))) ⌝ }
 {
@@ -188,24 +96,4 @@ fn snack(s: &[u8], common: &mut [u64; 8], own: &mut [u64; 9]) -> u32
         0,
     ];
     0
-}
-
-// Reads a PDU into words: 0, or the number of the first refusal, which leaves both arrays.
-pub fn read(input: &[u8], limits: Limits, common: &mut [u64; 8], own: &mut [u64; 9]) -> u32
-    ensures { λ r. ⌜ _≡_ {A = ReadWords} (record { answer = r; common = now (common .exit); own = now (own .exit) }) (readWords (readPdu limits (now (input .entry))) (now (common .entry)) (now (own .entry))) ⌝ }
-{
-    let f = refusal_before_field(input, limits);
-    if f != 0 {
-        return f as u32;
-    }
-    let op = input[0] % 64;
-    match op {
-        0x00 => nop_out(input, common, own),
-        0x01 => scsi_command(input, common, own),
-        0x02 => task_management(input, limits, common, own),
-        0x03 => login(input, common, own),
-        0x05 => data_out(input, common, own),
-        0x06 => logout(input, common, own),
-        _ => snack(input, common, own),
-    }
 }

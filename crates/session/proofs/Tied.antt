@@ -29,7 +29,8 @@ use Rattle.session_state.specs.History.{Ran, Booked, history, Each, Stayed, sta
 use Rattle.session_commands.specs.Answer.{offerAnswer, takeAnswer}
 use Rattle.session_connections.specs.Answer.{openAnswer, logoutAnswer}
 use Rattle.session_connections.specs.After.{afterOpen, afterLogout}
-use Rattle.session_statuses.specs.Answer.{sendAnswer, afterSend, acknowledgeAnswer, afterAcknowledge, resendAnswer}
+use Rattle.session_send.specs.Answer.{sendAnswer, afterSend}
+use Rattle.session_statuses.specs.Answer.{acknowledgeAnswer, afterAcknowledge, resendAnswer}
 use Rattle.session_snack.specs.Answer.{snackAnswer}
 use Rattle.session_questions.specs.Answer.{nextAnswer, holderAnswer}
 use Rattle.session.specs.Fresh.{freshState}
@@ -41,8 +42,8 @@ use Rattle.session_connections.proofs.logout.Reads as logout-r
 use Rattle.session_connections.proofs.logout.Kinds as logout-k
 use Rattle.session_connections.proofs.open_connection.Reads as open-r
 use Rattle.session_connections.proofs.open_connection.Kinds as open-k
-use Rattle.session_statuses.proofs.send.Reads as send-r
-use Rattle.session_statuses.proofs.send.Kinds as send-k
+use Rattle.session_send.proofs.send.Reads as send-r
+use Rattle.session_send.proofs.send.Kinds as send-k
 use Rattle.session_statuses.proofs.acknowledge.Reads as acknowledge-r
 use Rattle.session_statuses.proofs.acknowledge.Kinds as acknowledge-k
 use Rattle.session_snack.proofs.snack.Reads as snack-r

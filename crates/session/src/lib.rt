@@ -1,5 +1,5 @@
-// A session whole: made fresh. The calls stand in session_commands, session_connections, session_statuses, session_snack and
-// session_questions, over session_state. What is proved of every list of calls from a fresh session stands here (proofs/Tied).
+// A session whole: made fresh. The calls stand in session_commands, session_connections, session_send, session_statuses, session_snack
+// and session_questions, over session_state. What is proved of every list of calls from a fresh session stands here (proofs/Tied).
 use book::Given;
 use ledger::LEDGER_BYTES;
 use ledger::LEDGER_SLOTS;

@@ -114,7 +114,7 @@ pub fn r2t(
     match reach(s, conn) {
         Reached::NoConn => R2tAnswer::Refused(Refusal::NoConn),
         Reached::Closed => R2tAnswer::Refused(Refusal::Closed),
-        Reached::Open(l) => match task_out::r2t(t, tag, length, tags, ends) {
+        Reached::Open(l) => match task_r2t::r2t(t, tag, length, tags, ends) {
             R2tAnswer::Refused(f) => R2tAnswer::Refused(f),
             R2tAnswer::Sent {
                 header,

@@ -1,25 +1,13 @@
 -- Paper 01's number and values of each answer, and the session after it.
 use Prim.Native.Nat.{ℕ}
 use Rattle.refusal.specs.Refusal.{number}
-use Rattle.book.specs.Book.{Answer, refused, sent, acknowledged, resent}
+use Rattle.book.specs.Book.{Answer, refused, acknowledged, resent}
 use Rattle.session_state.specs.declared.Session.{Session}
 use Rattle.session_state.specs.After.{afterLedger}
-use Rattle.session_statuses.specs.declared.SendAnswer.{SendAnswer}
-use Rattle.session_statuses.specs.declared.SendAnswer.the-variants as SendA
 use Rattle.session_statuses.specs.declared.AcknowledgeAnswer.{AcknowledgeAnswer}
 use Rattle.session_statuses.specs.declared.AcknowledgeAnswer.the-variants as AcknowledgeA
 use Rattle.session_statuses.specs.declared.ResendAnswer.{ResendAnswer}
 use Rattle.session_statuses.specs.declared.ResendAnswer.the-variants as ResendA
-
-abbrev pub sendAnswer : SendAnswer → Answer
-sendAnswer (SendA.Refused f) = refused (number f)
-sendAnswer (SendA.Sent n) = sent n
-sendAnswer (SendA.Stored n l) = sent n
-
-abbrev pub afterSend : Session → ℕ → SendAnswer → Session
-afterSend s c (SendA.Refused f) = s
-afterSend s c (SendA.Sent n) = s
-afterSend s c (SendA.Stored n l) = afterLedger s c l
 
 abbrev pub acknowledgeAnswer : AcknowledgeAnswer → Answer
 acknowledgeAnswer (AcknowledgeA.Refused f) = refused (number f)

@@ -1,18 +1,14 @@
-// Statuses of a session: sent on a connection, acknowledged by the initiator, and resent. No call has a requirement of its caller: they
-// refuse. What they give back of the session is the connection's ledger, where it is new; `session_state::after_ledger` puts it in its
-// place.
+// Held statuses of a session: acknowledged by the initiator, and resent. No call has a requirement of its caller: they refuse. What they give
+// back of the session is the connection's ledger, where it is new; `session_state::after_ledger` puts it in its place.
 use ledger::Acknowledged;
 use ledger::LEDGER_BYTES;
 use ledger::LEDGER_SLOTS;
 use ledger::Ledger;
 use ledger::Renewal;
 use ledger::Resent;
-use ledger::Sent;
 use refusal::Refusal;
-use response_header::Response;
 use session_state::Reached;
 use session_state::Session;
-use session_state::longest_of;
 use session_state::reach;
 use store::HEADER_BYTES;
 use task::Task;
@@ -23,15 +19,7 @@ ghost use Rattle.window.specs.Agree.{Commands};
 ghost use Rattle.ledger.specs.Agree.{Statuses, statusesIn};
 ghost use Rattle.book.specs.Book.{Call, outputs, noOutputs};
 ghost use Rattle.session_state.specs.Agree.{Did, state};
-ghost use Rattle.session_statuses.specs.Answer.{sendAnswer, afterSend, acknowledgeAnswer, afterAcknowledge, resendAnswer};
-
-pub enum SendAnswer {
-    Refused(Refusal),
-    // What is sent with this StatSN, and is no status.
-    Sent(u32),
-    // A status, with the connection's ledger after it.
-    Stored { stat_sn: u32, ledger: Ledger },
-}
+ghost use Rattle.session_statuses.specs.Answer.{acknowledgeAnswer, afterAcknowledge, resendAnswer};
 
 pub enum AcknowledgeAnswer {
     Refused(Refusal),
@@ -42,65 +30,6 @@ pub enum AcknowledgeAnswer {
 pub enum ResendAnswer {
     Refused(Refusal),
     Resent(u32),
-}
-
-// Sends a response with its ticket on a connection: its header, with the next StatSN and both window numbers, into the
-// first 48 bytes of out. A SCSI Response has its ExpDataSN from the record t. BUFFER, NOCONN, CLOSED, writing's refusals, FIELD for a Data-In, an
-// R2T, or a SCSI Response whose ITT or SNACK tag isn't the record's, FULL.
-pub fn send(
-    s: Session,
-    conn: u32,
-    ticket: u32,
-    r: Response,
-    t: Task,
-    out: &mut [u8],
-    statuses: &mut [u8; LEDGER_BYTES],
-    status_tickets: &mut [u32; LEDGER_SLOTS],
-) -> SendAnswer
-    ensures { λ x. ⌜ ((k : Commands) (tags ends : List ℕ)
-        → Did (Call.send conn ticket r (recordOf t tags ends) (outputs (now (out .entry))))
-        (state s k (statusesIn (now (statuses .entry)) (now («status_tickets» .entry))))
-        (sendAnswer x) (outputs (now (out .exit)))
-        (state (afterSend s conn x) k (statusesIn (now (statuses .exit)) (now («status_tickets» .exit))))) ⌝ }
-{
-    if out.len() < HEADER_BYTES {
-        return SendAnswer::Refused(Refusal::Buffer);
-    }
-    match reach(s, conn) {
-        Reached::NoConn => SendAnswer::Refused(Refusal::NoConn),
-        Reached::Closed => SendAnswer::Refused(Refusal::Closed),
-        Reached::Open(l) => {
-            let w = s.window;
-            let e = window::exp_cmd_sn(w);
-            let m = window::max_cmd_sn(w);
-            let c = conn as usize;
-            let n = t.numbering;
-            let g = t.given;
-            let whole = session_task::completed(r, n);
-            let due = session_task::is_due(r, g.initiator_task_tag, n.snack_tag);
-            let longest = longest_of(s, conn);
-            match ledger_send::send(
-                l,
-                c,
-                ticket,
-                whole,
-                longest,
-                due,
-                e,
-                m,
-                out,
-                statuses,
-                status_tickets,
-            ) {
-                Sent::Refused(f) => SendAnswer::Refused(f),
-                Sent::NotStored(n) => SendAnswer::Sent(n),
-                Sent::Stored { stat_sn, ledger } => SendAnswer::Stored {
-                    stat_sn: stat_sn,
-                    ledger: ledger,
-                },
-            }
-        }
-    }
 }
 
 // Acknowledges the statuses of a connection before an ExpStatSN, with their count. NOCONN, CLOSED, STALE.
@@ -156,7 +85,7 @@ pub fn resend(
                 numbering: numbering,
             };
             let c = conn as usize;
-            match ledger_held::resend(l, c, stat_sn, renewal, statuses, status_tickets, out) {
+            match ledger_resend::resend(l, c, stat_sn, renewal, statuses, status_tickets, out) {
                 Resent::NotHeld => ResendAnswer::Refused(Refusal::Snack),
                 Resent::Status(ticket) => ResendAnswer::Resent(ticket),
             }

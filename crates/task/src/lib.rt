@@ -1,5 +1,6 @@
 // The code's record of a task, which the caller holds: a struct by value, and two arrays that the caller lends, in which the open R2Ts lie as
-// in a ring. Here its making and the Data-In that are sent for it; `task_snack` has the SNACKs for its data, `task_out` its R2Ts and Data-Out.
+// in a ring. Here its making and the Data-In that are sent for it; `task_snack` has the SNACKs for its data, `task_r2t` its R2Ts, `task_out`
+// its Data-Out.
 use field::NONE;
 use refusal::Refusal;
 use response_header::DataIn;
@@ -19,7 +20,7 @@ ghost use Rattle.task.specs.Agree.{recordOf, makingOf, dataInStepOf};
 // The open R2Ts that a record holds at most, and so the length of its two arrays.
 pub const OPEN_PLACES: usize = 8;
 
-const MOST_OPEN: u32 = 8;
+pub const MOST_OPEN: u32 = 8;
 
 // The number that isn't given: fewer than 2^32 Data-In and R2T are sent for a task.
 pub const LAST_NUMBER: u32 = 0xffff_ffff;

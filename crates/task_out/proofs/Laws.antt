@@ -1,23 +1,15 @@
--- The rules in the code's struct: what they leave of its numbers, and a Data-Out with an R2T open. The oldest lies at the first place of the ring, and
--- those after it from the next place on.
+-- The rules in the code's struct: a Data-Out with an R2T open. The oldest lies at the first place of the ring, and those after it from the next place on.
 use Prim.Native.Nat.{ℕ, _+_, _-_, _%_, _^_, _<_}
 use mathlib.Core.Path.{_≡_, sym, ap, _∙_}
 use mathlib.Core.Bool.{Bool, true, false}
-use mathlib.Core.List.{List, []}
+use mathlib.Core.List.{List}
 use native.Mathlib.Omega.{arith}
 use Rattle.request_header.specs.declared.DataOut.{DataOut}
-use Rattle.task_book.specs.Steps.{step, refuse, came, r2tOk, dataOutOk, afterDataOut, dataOutStep}
+use Rattle.task_book.specs.Steps.{step, refuse, came, dataOutOk, afterDataOut, dataOutStep}
 use Rattle.task.specs.declared.Task.{Task}
-use Rattle.task.specs.Agree.{placeOf, openOf, recordOf, withDataOut}
-use Rattle.task.proofs.Laws.{r2t-good, data-out-good, data-out-bad, data-out-came}
+use Rattle.task.specs.Agree.{placeOf, recordOf, withDataOut}
+use Rattle.task.proofs.Laws.{data-out-good, data-out-bad, data-out-came}
 use Rattle.task.proofs.Ring.{open-length, open-same, open-oldest}
-use Rattle.task_out.specs.R2T.{R2TFits}
-
--- What the rules of an R2T leave of the code's numbers.
-pub r2t-fits : (t : Task) (q n : ℕ) (r : Bool) → r ≡ r2tOk (recordOf t [] []) q n → r ≡ true → R2TFits t n
-r2t-fits t q n r told ok =
-    let g = r2t-good (recordOf t [] []) q n (sym told ∙ ok) in
-    record { some = g .some; end = g .end; few = rw (open-length [] [] (t .«first_open») (t .«open_count»)) at (g .few); left = g .left }
 
 module _ (t : Task) (ts es : List ℕ) (i : ℕ) (p : DataOut) (n : ℕ) (opened : 0 < t .«open_count») (r : Bool)
     (told : r ≡ dataOutOk (recordOf t ts es) (placeOf ts es (t .«first_open»)) i p n) where

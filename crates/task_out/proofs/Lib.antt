@@ -1,2 +1,2 @@
--- Laws that the proofs of `r2t` and `data_out` cite.
+-- Laws that the proof of `data_out` cites.
 pub mod Laws

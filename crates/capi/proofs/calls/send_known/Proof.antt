@@ -1,4 +1,4 @@
-use Rattle.session_statuses.specs.Answer.{sendAnswer}
+use Rattle.session_send.specs.Answer.{sendAnswer}
 use Rattle.capi.specs.Session.{nothing, by-send}
 use Rattle.capi.proofs.Unchanged.{refused-said}
 use borrow.Author.Needs.{needs}
