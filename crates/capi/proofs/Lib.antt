@@ -1,3 +1,2 @@
-pub mod Unchanged
-pub mod Unfit
+pub mod SaidOn
 pub mod Tied

@@ -2,7 +2,7 @@
 -- calls of these functions, each on the words that the last left.
 use Prim.Native.Nat.{ℕ}
 use mathlib.Core.List.{List, [], _∷_}
-use mathlib.Core.Path.{_≡_, refl, sym, ap, ap₂, subst, _∙_}
+use mathlib.Core.Path.{_≡_, refl, sym, ap, ap₂, subst}
 use denote.Ref.{now}
 use contract.Lifetimes
 use borrow.Fn.Kinds as K
@@ -10,8 +10,8 @@ use denote.Triple.Clauses.{AtExit}
 use Rattle.window.specs.Agree.{Commands, commands}
 use Rattle.ledger.specs.Agree.{Statuses, statusesIn}
 use Rattle.book.specs.declared.Given.{Given}
-use Rattle.book.specs.Book.{Book, Outputs, outputs, noOutputs, lent, Call, offer, take, logout, opening, send, acknowledge, snack, resend, Transfer, dataIn, r2t, dataOut, dataSnack, transfer, ask, Question, windowNumbers, nextStatSN, holder, wholeLength, Answer, refused, Step, choiceOf, freshBook}
-use Rattle.book.specs.Events.{Event, event, turnsOf}
+use Rattle.book.specs.Book.{Book, Outputs, outputs, noOutputs, Call, offer, take, logout, opening, send, acknowledge, snack, resend, Transfer, dataIn, r2t, dataOut, dataSnack, transfer, ask, Question, windowNumbers, nextStatSN, holder, wholeLength, freshBook}
+use Rattle.book.specs.Events.{Event, turnsOf}
 use Rattle.book.specs.Demand.{Demand3}
 use Rattle.book.specs.Tasks.{OnTask}
 use Rattle.task_book.specs.declared.TaskGiven.{TaskGiven}
@@ -21,13 +21,14 @@ use Rattle.task_book.specs.Sentences.{DataPhases}
 use Rattle.book.proofs.Sentences.{demand3-booked}
 use Rattle.book.proofs.Tasks.{tasks-booked}
 use Rattle.response_words.specs.ResponseWords.{responseOf}
-use Rattle.session_state.specs.Agree.{State, Agrees, Did}
-use Rattle.session_state.specs.History.{Ran, Booked, history}
-use Rattle.answer_words.specs.Answer.{answerWords, packed}
+use Rattle.session_state.specs.Agree.{Agrees}
+use Rattle.session_state.specs.History.{Ran, history}
+use Rattle.answer_words.specs.Answer.{packed}
 use Rattle.task_words.specs.TaskWords.{taskWords, recordIn}
-use Rattle.capi.specs.Given.{openingOf, givenOf}
-use Rattle.capi.specs.Session.{SessionWords, sessionWords, stateOf, Asked, calls, sendsUnfit, sends, SaidBy, LeavesWords, unfitStep}
-use Rattle.capi.specs.History.{askedStep, AskedEvent, askedEvent, Spoken, spoken, inWords, bookSays, bookThen, andCalls, callsIn}
+use Rattle.call_words.specs.Given.{openingOf, givenOf}
+use Rattle.call_words.specs.Session.{SessionWords, sessionWords, stateOf, Asked, calls, sendsUnfit, sends, SaidBy, LeavesWords}
+use Rattle.call_words.specs.History.{answerBy, lentBy, AskedEvent, askedEvent, Spoken, spoken, inWords, bookSays, bookThen, callsIn}
+use Rattle.call_words.proofs.Asked.{words-by, step-by, next-by, left-by}
 use Rattle.capi.proofs.calls.drawbevel_core_fresh.Reads as fresh-r
 use Rattle.capi.proofs.calls.drawbevel_core_fresh.Kinds as fresh-k
 use Rattle.capi.proofs.calls.drawbevel_core_offer.Reads as offer-r
@@ -374,14 +375,6 @@ asked-said (sendsUnfit c n o) d x = by-send d x
 
 -- ---- the answers of a list of calls
 
-abbrev pub answerBy : (q : Asked) (s : SessionWords) (w : List ℕ) (o : Outputs) (s' : SessionWords) → SaidBy q s w o s' → Answer
-answerBy (calls c) s w o s' x = x .answer
-answerBy (sendsUnfit c n l) s w o s' x = refused (x .number)
-
-words-by : (q : Asked) (s : SessionWords) (w : List ℕ) (o : Outputs) (s' : SessionWords) (x : SaidBy q s w o s') → w ≡ answerWords (answerBy q s w o s' x)
-words-by (calls c) s w o s' x = x .words
-words-by (sendsUnfit c n l) s w o s' x = x .words
-
 -- What was asked, with the answers themselves.
 unfoldable pub answered : {s s' : SessionWords} {es : List Spoken} → Calls s es s' → List AskedEvent
 answered end = []
@@ -395,24 +388,6 @@ spoken-words (then {s = s} {s' = s'} {q = q} {w = w} {o = o} p r) =
     ap₂ _∷_ (ap (λ (x : List ℕ). spoken q x o) (words-by q s w o s' (asked-said q (done q s w o s') p))) (spoken-words r)
 
 -- ---- the book's answers
-
-record StepBy (q : Asked) (b : Book) (a : Answer) (o : Outputs) (s' : SessionWords) : Type 0 where
-  pub answer : a ≡ askedStep b q (choiceOf a) .answer
-  pub out : o ≡ askedStep b q (choiceOf a) .out
-  pub agrees : Agrees (stateOf s') (askedStep b q (choiceOf a) .book)
-
-step-by : (q : Asked) (s : SessionWords) (w : List ℕ) (o : Outputs) (s' : SessionWords) (x : SaidBy q s w o s') (b : Book)
-    → Agrees (stateOf s) b → StepBy q b (answerBy q s w o s' x) o s'
-unfolding askedStep
-step-by (calls c) s w o s' x b g = let m = x .did .meets b g in record { answer = m .answer; out = m .out; agrees = m .agrees }
-step-by (sendsUnfit c n l) s w o s' x b g =
-    let e = x .meets b g in
-    record {
-      answer = sym (ap (λ (y : Step). y .answer) e);
-      out = x .stays .1 ∙ sym (ap (λ (y : Step). y .out) e);
-      agrees = subst (λ (z : SessionWords). Agrees (stateOf z) (unfitStep b c n l .book)) (sym (x .stays .0))
-          (subst (Agrees (stateOf s)) (sym (ap (λ (y : Step). y .book) e)) g);
-    }
 
 -- The answers are the book's, and the words after them stand for the book after them.
 pub record BookedWords (b : Book) (es : List AskedEvent) (s : SessionWords) : Type 0 where
@@ -429,11 +404,6 @@ booked-from (then {s = s} {s' = s'} {q = q} {w = w} {o = o} p r) b g =
 
 -- ---- the calls among them
 
-next-by : (q : Asked) (s : SessionWords) (w : List ℕ) (o : Outputs) (s' : SessionWords) (x : SaidBy q s w o s') (es : List Event) (t : State)
-    → Ran (stateOf s') es t → Ran (stateOf s) (andCalls q (answerBy q s w o s' x) o es) t
-next-by (calls c) s w o s' x es t r = Ran.next (x .did) r
-next-by (sendsUnfit c n l) s w o s' x es t r = subst (λ (z : SessionWords). Ran (stateOf z) es t) (x .stays .0) r
-
 as-ran : {s s' : SessionWords} {es : List Spoken} (r : Calls s es s') → Ran (stateOf s) (callsIn (answered r)) (stateOf s')
 unfolding answered callsIn
 as-ran end = Ran.done
@@ -442,20 +412,11 @@ as-ran (then {s = s} {s' = s'} {s'' = t} {q = q} {w = w} {o = o} p r) =
 
 -- ---- what a refusal leaves, from any words at all
 
-abbrev pub lentBy : Asked → Outputs
-lentBy (calls c) = lent c
-lentBy (sendsUnfit c n l) = l
-
 -- At each refused event every word and byte after it is the one before it.
 abbrev pub EachLeft : {s s' : SessionWords} {es : List Spoken} → Calls s es s' → Type 0
 EachLeft end = Unit {0}
 EachLeft (then {s = s} {s' = s'} {q = q} {w = w} {o = o} p r) =
     LeavesWords (answerBy q s w o s' (asked-said q (done q s w o s') p)) s s' (lentBy q) o × EachLeft r
-
-left-by : (q : Asked) (s : SessionWords) (w : List ℕ) (o : Outputs) (s' : SessionWords) (x : SaidBy q s w o s')
-    → LeavesWords (answerBy q s w o s' x) s s' (lentBy q) o
-left-by (calls c) s w o s' x = x .stays
-left-by (sendsUnfit c n l) s w o s' x = x .stays
 
 pub refusals-leave : {s s' : SessionWords} {es : List Spoken} (r : Calls s es s') → EachLeft r
 refusals-leave end = tt

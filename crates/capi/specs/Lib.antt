@@ -1,4 +1,1 @@
-pub mod Pdu
-pub mod Given
-pub mod Session
-pub mod History
+pub mod Transfer

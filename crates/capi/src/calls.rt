@@ -1,44 +1,15 @@
 // The session's calls for C. A session is its numbers and maps, and the arrays of headers and tickets; each call is lent what it
 // touches. An answer of one value at most goes back in a register, another in four words.
-use answer_words::DONE;
-use answer_words::IMMEDIATE;
-use book::Given;
-use book::Opening;
-use field::HEADER_BYTES;
-use refusal::Refusal;
-use response_from_words::response;
-use response_header::MAX_DATA;
-use response_header::Response;
-use response_words::FromWords;
-use response_words::unfit_refusal;
-use session_changes::close;
-use session_changes::store_conn;
-use session_changes::store_ledger;
-use session_changes::store_window;
-use session_commands::OfferAnswer;
-use session_commands::TakeAnswer;
-use session_connections::LogoutAnswer;
-use session_connections::OpenAnswer;
-use session_send::SendAnswer;
-use session_state::Reached;
-use session_state::reach;
-use session_statuses::AcknowledgeAnswer;
-use session_words::load;
-use session_words::store;
-use task::Task;
-ghost use mathlib.Core.Path.{_≡_};
 ghost use mathlib.Core.List.{List};
 ghost use Prim.Native.Nat.{ℕ};
-ghost use lib.ListN.{length};
 ghost use Rattle.window.specs.Agree.{Commands, commands};
 ghost use Rattle.ledger.specs.Agree.{Statuses, statusesIn};
 ghost use Rattle.book.specs.Book.{Call, outputs, noOutputs};
 ghost use Rattle.answer_words.specs.Answer.{packed};
 ghost use Rattle.response_words.specs.ResponseWords.{responseOf};
-ghost use Rattle.task.specs.Agree.{recordOf};
 ghost use Rattle.task_words.specs.TaskWords.{taskWords, recordIn};
-ghost use Rattle.capi.specs.Given.{openingOf, givenOf};
-ghost use Rattle.capi.specs.Session.{sessionWords, FreshWords, Said, SaidUnfit, sends, SaidBy};
+ghost use Rattle.call_words.specs.Given.{openingOf, givenOf};
+ghost use Rattle.call_words.specs.Session.{sessionWords, FreshWords, Said, sends, SaidBy};
 
 // Offers a whole PDU with its ticket on a connection.
 #[no_mangle]
@@ -57,18 +28,7 @@ pub extern "C" fn drawbevel_core_offer(
         (packed r) noOutputs
         (sessionWords (now (n .exit)) (now (m .exit)) (commands (now (headers .exit)) (now (tickets .exit))) ss)) ⌝ }
 {
-    let s = load(n, m);
-    let step = session_commands::offer(s, conn, ticket, pdu, headers, tickets);
-    let window = step.window;
-    let a = step.answer;
-    match a {
-        OfferAnswer::Refused(f) => answer_words::pack_refused(f),
-        OfferAnswer::Immediate => answer_words::pack(IMMEDIATE, 0),
-        OfferAnswer::Numbered(x) => {
-            store_window(n, m, window);
-            answer_words::placed(x)
-        }
-    }
+    command_words::offer(n, m, headers, tickets, conn, ticket, pdu)
 }
 
 // Takes the next command, its header into the first 48 bytes of out.
@@ -87,19 +47,7 @@ pub extern "C" fn drawbevel_core_take(
         (now (answer .exit)) (outputs (now (out .exit)))
         (sessionWords (now (n .exit)) (now (m .exit)) (commands (now (headers .entry)) (now (tickets .entry))) ss)) ⌝ }
 {
-    let s = load(n, m);
-    let step = session_commands::take(s, headers, tickets, out);
-    let window = step.window;
-    let a = step.answer;
-    match a {
-        TakeAnswer::Refused(f) => {
-            *answer = answer_words::refused(f);
-        }
-        TakeAnswer::Taken(x) => {
-            store_window(n, m, window);
-            *answer = answer_words::handed_out(x);
-        }
-    }
+    command_words::take(n, m, headers, tickets, out, answer);
 }
 
 // Opens a connection that isn't open, with its first StatSN.
@@ -116,15 +64,7 @@ pub extern "C" fn drawbevel_core_open(
         (packed r) noOutputs
         (sessionWords (now (n .exit)) (now (m .exit)) k ss)) ⌝ }
 {
-    let s = load(n, m);
-    let given = Opening { stat_sn: stat_sn };
-    match session_connections::open_connection(s, conn, given) {
-        OpenAnswer::Refused(f) => answer_words::pack_refused(f),
-        OpenAnswer::Opened(k) => {
-            store_conn(n, conn, k);
-            answer_words::pack(DONE, 0)
-        }
-    }
+    connection_words::open(n, m, conn, stat_sn)
 }
 
 // The effect of a logout on an open connection.
@@ -142,24 +82,7 @@ pub extern "C" fn drawbevel_core_logout(
         (now (answer .exit)) noOutputs
         (sessionWords (now (n .exit)) (now (m .exit)) k ss)) ⌝ }
 {
-    let s = load(n, m);
-    let step = session_connections::logout(s, conn, reason);
-    let window = step.window;
-    let a = step.answer;
-    match a {
-        LogoutAnswer::Refused(f) => {
-            *answer = answer_words::refused(f);
-        }
-        LogoutAnswer::LoggedOut {
-            emptied,
-            voided,
-            closes,
-        } => {
-            store_window(n, m, window);
-            close(n, conn, closes);
-            *answer = answer_words::logged_out(emptied, voided);
-        }
-    }
+    connection_words::logout(n, m, conn, reason, answer);
 }
 
 // Releases the statuses before an ExpStatSN.
@@ -176,14 +99,7 @@ pub extern "C" fn drawbevel_core_acknowledge(
         (packed r) noOutputs
         (sessionWords (now (n .exit)) (now (m .exit)) k ss)) ⌝ }
 {
-    let s = load(n, m);
-    match session_statuses::acknowledge(s, conn, exp_stat_sn) {
-        AcknowledgeAnswer::Refused(f) => answer_words::pack_refused(f),
-        AcknowledgeAnswer::Acknowledged { count, ledger } => {
-            store_ledger(n, conn, ledger);
-            answer_words::pack(DONE, count)
-        }
-    }
+    status_words::acknowledge(n, m, conn, exp_stat_sn)
 }
 
 // The run that a status SNACK asks for.
@@ -201,9 +117,7 @@ pub extern "C" fn drawbevel_core_snack(
         (now (answer .exit)) noOutputs
         (sessionWords (now (n .entry)) (now (m .entry)) k ss)) ⌝ }
 {
-    let s = load(n, m);
-    let a = session_snack::snack(s, conn, pdu);
-    *answer = answer_words::run(a);
+    status_words::snack(n, m, conn, pdu, answer);
 }
 
 // Sends a held status again, its header with the current window numbers, and of a SCSI Response what it takes of the record, into the first 48
@@ -226,57 +140,17 @@ pub extern "C" fn drawbevel_core_resend(
         (packed r) (outputs (now (out .exit)))
         (sessionWords (now (n .entry)) (now (m .entry)) k (statusesIn (now (statuses .entry)) (now («status_tickets» .entry))))) ⌝ }
 {
-    let s = load(n, m);
-    let t = task_words::load(task, wide);
-    let a = session_statuses::resend(s, conn, stat_sn, t, statuses, status_tickets, out);
-    answer_words::resent(a)
-}
-
-fn send_known(
-    n: &mut [u32; 15],
-    m: &mut [u64; 6],
-    statuses: &mut [u8; 6144],
-    status_tickets: &mut [u32; 128],
-    t: Task,
-    conn: u32,
-    ticket: u32,
-    r: Response,
-    out: &mut [u8],
-) -> u64
-    ensures { λ w. ⌜ ((k : Commands) (tags ends : List ℕ)
-        → Said (Call.send conn ticket r (recordOf t tags ends) (outputs (now (out .entry))))
-        (sessionWords (now (n .entry)) (now (m .entry)) k (statusesIn (now (statuses .entry)) (now («status_tickets» .entry))))
-        (packed w) (outputs (now (out .exit)))
-        (sessionWords (now (n .exit)) (now (m .exit)) k (statusesIn (now (statuses .exit)) (now («status_tickets» .exit))))) ⌝ }
-{
-    let s = load(n, m);
-    match session_send::send(s, conn, ticket, r, t, out, statuses, status_tickets) {
-        SendAnswer::Refused(f) => answer_words::pack_refused(f),
-        SendAnswer::Sent(stat_sn) => answer_words::pack(DONE, stat_sn),
-        SendAnswer::Stored { stat_sn, ledger } => {
-            store_ledger(n, conn, ledger);
-            answer_words::pack(DONE, stat_sn)
-        }
-    }
-}
-
-// The answer to words that are no response, with the length of the lent output: BUFFER, NOCONN, CLOSED, then writing's refusal of them.
-fn send_unfit(n: &[u32; 15], m: &[u64; 6], conn: u32, stated: u64, lent: usize) -> u64
-    ensures { λ w. ⌜ ((k : Commands) (ss : Statuses) (o : List ℕ) → length o ≡ lent
-        → SaidUnfit conn stated (outputs o)
-        (sessionWords (now (n .entry)) (now (m .entry)) k ss)
-        (packed w) (outputs o)
-        (sessionWords (now (n .entry)) (now (m .entry)) k ss)) ⌝ }
-{
-    if lent < HEADER_BYTES {
-        return answer_words::pack_refused(Refusal::Buffer);
-    }
-    let s = load(n, m);
-    match reach(s, conn) {
-        Reached::NoConn => answer_words::pack_refused(Refusal::NoConn),
-        Reached::Closed => answer_words::pack_refused(Refusal::Closed),
-        Reached::Open(_) => answer_words::pack_refused(unfit_refusal(stated, MAX_DATA)),
-    }
+    status_words::resend(
+        n,
+        m,
+        statuses,
+        status_tickets,
+        task,
+        wide,
+        conn,
+        stat_sn,
+        out,
+    )
 }
 
 // Sends a response, its header into the first 48 bytes of out.
@@ -299,13 +173,18 @@ pub extern "C" fn drawbevel_core_send(
         (packed r) (outputs (now (out .exit)))
         (sessionWords (now (n .exit)) (now (m .exit)) k (statusesIn (now (statuses .exit)) (now («status_tickets» .exit))))) ⌝ }
 {
-    match response(words) {
-        FromWords::Response(r) => {
-            let t = task_words::load(task, wide);
-            send_known(n, m, statuses, status_tickets, t, conn, ticket, r, out)
-        }
-        FromWords::Unfit(stated) => send_unfit(n, m, conn, stated, out.len()),
-    }
+    send_words::send(
+        n,
+        m,
+        statuses,
+        status_tickets,
+        task,
+        wide,
+        conn,
+        ticket,
+        words,
+        out,
+    )
 }
 
 // A fresh session: its first command number, connection 0's first StatSN, the ErrorRecoveryLevel.
@@ -325,19 +204,15 @@ pub extern "C" fn drawbevel_core_fresh(
         (sessionWords (now (n .exit)) (now (m .exit)) (commands (now (headers .exit)) (now (tickets .exit)))
         (statusesIn (now (statuses .exit)) (now («status_tickets» .exit)))) ⌝ }
 {
-    let f = session::fresh(Given {
-        first: first,
-        level: level,
-        opening: Opening { stat_sn: stat_sn },
-    });
-    let s = f.session;
-    let h = f.headers;
-    let t = f.tickets;
-    let hs = f.statuses;
-    let ts = f.status_tickets;
-    *headers = h;
-    *tickets = t;
-    *statuses = hs;
-    *status_tickets = ts;
-    store(n, m, s);
+    connection_words::fresh(
+        n,
+        m,
+        headers,
+        tickets,
+        statuses,
+        status_tickets,
+        first,
+        stat_sn,
+        level,
+    );
 }

@@ -1,20 +1,11 @@
 // The header reader and writer for C.
-use field::HEADER_BYTES;
-use refusal::Refusal;
 use request_header::LIMITS;
-use response_from_words::response;
-use response_header::MAX_DATA;
-use response_header::Numbers;
-use response_header::Response;
-use response_words::FromWords;
-use response_words::unfit_refusal;
-use response_writer::WriteAnswer;
 ghost use mathlib.Core.Path.{_≡_};
 ghost use Rattle.request_header.specs.Request.{limits, readPdu};
 ghost use Rattle.response_writer.specs.Writing.{Outcome};
 ghost use Rattle.request_words.specs.RequestWords.{ReadWords, readWords};
 ghost use Rattle.response_words.specs.ResponseWords.{responseOf};
-ghost use Rattle.capi.specs.Pdu.{writeWords, numbersOf};
+ghost use Rattle.write_words.specs.WriteWords.{writeWords, numbersOf};
 
 // Reads a PDU: 0 and its words, or the refusal's number, which leaves both arrays as they were.
 #[no_mangle]
@@ -26,15 +17,6 @@ pub extern "C" fn drawbevel_core_read(
     ensures { λ r. ⌜ _≡_ {A = ReadWords} (record { answer = r; common = now (common .exit); own = now (own .exit) }) (readWords (readPdu limits (now (input .entry))) (now (common .entry)) (now (own .entry))) ⌝ }
 {
     pdu_words::read(input, LIMITS, common, own)
-}
-
-fn write_known(out: &mut [u8], r: Response, n: Numbers) -> u32
-    ensures { λ k. ⌜ _≡_ {A = Outcome} (record { answer = k; bytes = now (out .exit) }) (Rattle.response_writer.specs.Writing.writing 8192 (now (out .entry)) r n) ⌝ }
-{
-    match response_writer::write(out, r, n, MAX_DATA) {
-        WriteAnswer::Refused(f) => refusal::number_of(f) as u32,
-        WriteAnswer::Written => 0,
-    }
 }
 
 // Writes a response's header into the first 48 bytes of out: 0, or the refusal's number, which leaves every byte.
@@ -49,21 +31,5 @@ pub extern "C" fn drawbevel_core_write(
 ) -> u32
     ensures { λ k. ⌜ _≡_ {A = Outcome} (record { answer = k; bytes = now (out .exit) }) (writeWords (responseOf (now (words .entry))) (now (out .entry)) (numbersOf «stat_sn» «exp_cmd_sn» «max_cmd_sn»)) ⌝ }
 {
-    match response(words) {
-        FromWords::Unfit(stated) => {
-            if out.len() < HEADER_BYTES {
-                return refusal::number_of(Refusal::Buffer) as u32;
-            }
-            refusal::number_of(unfit_refusal(stated, MAX_DATA)) as u32
-        }
-        FromWords::Response(r) => write_known(
-            out,
-            r,
-            Numbers {
-                stat_sn: stat_sn,
-                exp_cmd_sn: exp_cmd_sn,
-                max_cmd_sn: max_cmd_sn,
-            },
-        ),
-    }
+    write_words::write(out, words, stat_sn, exp_cmd_sn, max_cmd_sn)
 }

@@ -1,12 +1,11 @@
 // What C may ask of a session, which changes nothing, and of the first bytes of a PDU.
-use session_words::load;
 ghost use mathlib.Core.List.{List};
 ghost use Prim.Native.Nat.{ℕ};
 ghost use Rattle.window.specs.Agree.{Commands, commands};
 ghost use Rattle.ledger.specs.Agree.{Statuses};
 ghost use Rattle.book.specs.Book.{Call, Question, noOutputs};
 ghost use Rattle.answer_words.specs.Answer.{packed};
-ghost use Rattle.capi.specs.Session.{SessionWords, sessionWords, Said};
+ghost use Rattle.call_words.specs.Session.{SessionWords, sessionWords, Said};
 
 // ExpCmdSN and MaxCmdSN.
 #[no_mangle]
@@ -17,9 +16,7 @@ pub extern "C" fn drawbevel_core_window(n: &[u32; 15], m: &[u64; 6], answer: &mu
         (now (answer .exit)) noOutputs
         (sessionWords (now (n .entry)) (now (m .entry)) k ss)) ⌝ }
 {
-    let s = load(n, m);
-    let a = session_questions::window_numbers(s);
-    *answer = answer_words::numbers(a);
+    question_words::window(n, m, answer);
 }
 
 // The next StatSN of a connection.
@@ -31,9 +28,7 @@ pub extern "C" fn drawbevel_core_next(n: &[u32; 15], m: &[u64; 6], conn: u32) ->
         (packed r) noOutputs
         (sessionWords (now (n .entry)) (now (m .entry)) k ss)) ⌝ }
 {
-    let s = load(n, m);
-    let a = session_questions::next_stat_sn(s, conn);
-    answer_words::next(a)
+    question_words::next(n, m, conn)
 }
 
 // Who holds a number.
@@ -51,9 +46,7 @@ pub extern "C" fn drawbevel_core_holder(
         (now (answer .exit)) noOutputs
         (sessionWords (now (n .entry)) (now (m .entry)) (commands h (now (tickets .entry))) ss)) ⌝ }
 {
-    let s = load(n, m);
-    let a = session_questions::holder(s, tickets, number);
-    *answer = answer_words::holder(a);
+    question_words::holder(n, m, tickets, number, answer);
 }
 
 // The whole length of the PDU that begins with these bytes. It takes nothing of a session.
@@ -61,6 +54,5 @@ pub extern "C" fn drawbevel_core_holder(
 pub extern "C" fn drawbevel_core_length(bytes: &[u8]) -> u64
     ensures { λ r. ⌜ ((s : SessionWords) → Said (Call.ask (Question.wholeLength (now (bytes .entry)))) s (packed r) noOutputs s) ⌝ }
 {
-    let a = session_questions::whole_length(bytes);
-    answer_words::length(a)
+    question_words::length(bytes)
 }

@@ -8,7 +8,8 @@ ghost use Rattle.book.specs.Book.{Transfer, outputs, noOutputs};
 ghost use Rattle.answer_words.specs.Answer.{packed};
 ghost use Rattle.task_words.specs.TaskWords.{taskWords};
 ghost use Rattle.transfer_words.specs.Moves.{Makes, taskGivenOf};
-ghost use Rattle.capi.specs.Session.{sessionWords, SaidOn};
+ghost use Rattle.call_words.specs.Session.{sessionWords};
+ghost use Rattle.capi.specs.Transfer.{SaidOn};
 
 // Makes a task's record, with nothing open: the arrays of open R2Ts may hold anything.
 #[no_mangle]
