@@ -195,13 +195,13 @@ pub const ALL: &[Fault] = &[
     ),
     (
         "a wrong array for a record's numbers of 64 bits",
-        "task->wide, task->tags, task->ends, connection, pdu, length, a);",
-        "task->ends, task->tags, task->ends, connection, pdu, length, a);",
+        "task->wide, task->tags, task->ends, a);",
+        "task->ends, task->tags, task->ends, a);",
     ),
     (
         "connection and offset of a data SNACK swapped",
-        "task->wide, connection, offset, pdu,",
-        "task->wide, offset, connection, pdu,",
+        "connection, pdu, length, task->numbers, task->wide, offset, a);",
+        "offset, pdu, length, task->numbers, task->wide, connection, a);",
     ),
     (
         "connection and ticket of a send swapped",
@@ -458,9 +458,9 @@ pub const ALL: &[Fault] = &[
     ),
     (
         "offset of a data SNACK left out",
-        "connection, offset, pdu, length, a);
+        "task->wide, offset, a);
     is_run",
-        "connection, 0 * offset, pdu, length, a);
+        "task->wide, 0 * offset, a);
     is_run",
     ),
     (
