@@ -18,44 +18,8 @@ use Rattle.key_table.specs.declared.table.Rule.{Rule}
 use Rattle.key_table.specs.declared.table.Rule.the-variants as R
 use Rattle.key_table.specs.declared.table.Row.{Row}
 
--- The names.
 abbrev none : Known
 none = key "" K.Refused
-
-abbrev lengths : List ℕ
-lengths = 14 ∷ 17 ∷ 10 ∷ 14 ∷ 19 ∷ 13 ∷ 24 ∷ 14 ∷ 16 ∷ 16 ∷ 18 ∷ 18 ∷ 12 ∷ 10 ∷ 13 ∷ 10 ∷ 13 ∷ 10 ∷ 11 ∷ 14 ∷ 8 ∷ 8 ∷ 9 ∷ 9 ∷ 11 ∷ 13 ∷ 20 ∷ 11 ∷ []
-
-abbrev text : List ℕ
-text = bytes "MaxConnections..........MaxOutstandingR2T.......InitialR2T..............DataPDUInOrder..........DataSequenceInOrder.....ImmediateData...........MaxRecvDataSegmentLengthMaxBurstLength..........FirstBurstLength........DefaultTime2Wait........DefaultTime2Retain......ErrorRecoveryLevel......HeaderDigest............DataDigest..............TaskReporting...........AuthMethod..............InitiatorName...........TargetName..............SessionType.............InitiatorAlias..........IFMarker................OFMarker................IFMarkInt...............OFMarkInt...............TargetAlias.............TargetAddress...........TargetPortalGroupTag....SendTargets............."
-
-within : ℕ → Bool
-within k = leb (k * 24 + getD lengths k 0) 672
-
-equal : ℕ → Bool
-equal k = same (take (k * 24 + getD lengths k 0 - k * 24) (drop (k * 24) text)) (nameAt k)
-
-long : ℕ → Bool
-long k = eqb (length (nameAt k)) (getD lengths k 0)
-
-right : ℕ → Bool
-right k = within k && (equal k && long k)
-
-names : below right 28 ≡ true
-unfolding right within equal long nameAt known same
-names = refl
-
-module _ (k : ℕ) (h : k < 28) where
-  pub inside : k * 24 + getD lengths k 0 ≤ 672
-  unfolding right within
-  inside = leb-true _ _ (&&-left (within k) _ (at right 28 names k h))
-
-  pub named : take (k * 24 + getD lengths k 0 - k * 24) (drop (k * 24) text) ≡ nameAt k
-  unfolding right equal
-  named = same-eq _ _ (&&-left (equal k) (long k) (&&-right (within k) _ (at right 28 names k h)))
-
-  pub name-length : length (nameAt k) ≡ getD lengths k 0
-  unfolding right long
-  name-length = eqb-true _ _ (&&-right (equal k) (long k) (&&-right (within k) _ (at right 28 names k h)))
 
 -- A name that is known is the name of its key.
 place-go : (t : Bool) (n : List ℕ) (x : Known) (xs : List Known) → same n (x .name) ≡ t → (placeIn n xs < length xs → n ≡ getD xs (placeIn n xs) none .name)
@@ -83,80 +47,37 @@ pub key-most : (n : List ℕ) → keyOf n ≤ 28
 unfolding keyOf known
 key-most n = place-most n known
 
--- Each name is its key's alone, and the place that its length and two bytes give holds that key.
-abbrev pub places : List ℕ
-places = 28 ∷ 28 ∷ 28 ∷ 16 ∷ 28 ∷ 8 ∷ 11 ∷ 19 ∷ 28 ∷ 27 ∷ 28 ∷ 17 ∷ 28 ∷ 28 ∷ 28 ∷ 24 ∷ 28 ∷ 28 ∷ 28 ∷ 15 ∷ 28 ∷ 13 ∷ 28 ∷ 25 ∷ 18 ∷ 6 ∷ 28 ∷ 14 ∷ 20 ∷ 28 ∷ 28 ∷ 28 ∷ 22 ∷ 7 ∷ 0 ∷ 28 ∷ 28 ∷ 3 ∷ 28 ∷ 28 ∷ 28 ∷ 28 ∷ 28 ∷ 28 ∷ 12 ∷ 9 ∷ 21 ∷ 28 ∷ 28 ∷ 28 ∷ 23 ∷ 26 ∷ 5 ∷ 10 ∷ 28 ∷ 2 ∷ 28 ∷ 4 ∷ 1 ∷ 28 ∷ 28 ∷ 28 ∷ 28 ∷ 28 ∷ []
-
-placed : ℕ → Bool
-placed k = eqb (getD places ((length (nameAt k) * 4 + getD (nameAt k) 0 0 * 3 + getD (nameAt k) 3 0) % 64) 0) k
-
-long-enough : ℕ → Bool
-long-enough k = leb 4 (length (nameAt k)) && leb (length (nameAt k)) 24
-
+-- Each name is its key's alone, and has a good form.
 alone : ℕ → Bool
 alone k = eqb (keyOf (nameAt k)) k
 
 formed-name : ℕ → Bool
 formed-name k = goodName (nameAt k)
 
-hashed : ℕ → Bool
-hashed k = (placed k && long-enough k) && (alone k && formed-name k)
+own-name : ℕ → Bool
+own-name k = alone k && formed-name k
 
-hashes : below hashed 28 ≡ true
-unfolding hashed placed long-enough alone formed-name nameAt keyOf known same goodName all nameByte
-hashes = refl
-
-few : ℕ → Bool
-few i = leb (getD places i 0) 28
-
-all-few : below few 64 ≡ true
-unfolding few
-all-few = refl
-
-pub place-few : (i : ℕ) → i < 64 → getD places i 0 ≤ 28
-unfolding few
-place-few i h = leb-true _ _ (at few 64 all-few i h)
+own-names : below own-name 28 ≡ true
+unfolding own-name alone formed-name nameAt keyOf known same goodName all nameByte
+own-names = refl
 
 module _ (k : ℕ) (h : k < 28) where
-  pub place-key : getD places ((length (nameAt k) * 4 + getD (nameAt k) 0 0 * 3 + getD (nameAt k) 3 0) % 64) 0 ≡ k
-  unfolding hashed placed
-  place-key = eqb-true _ _ (&&-left (placed k) (long-enough k) (&&-left _ _ (at hashed 28 hashes k h)))
-
-  long-name : long-enough k ≡ true
-  unfolding hashed
-  long-name = &&-right (placed k) (long-enough k) (&&-left _ _ (at hashed 28 hashes k h))
-
-  pub name-least : 4 ≤ length (nameAt k)
-  unfolding long-enough
-  name-least = leb-true _ _ (&&-left _ _ long-name)
-
-  pub name-most : length (nameAt k) ≤ 24
-  unfolding long-enough
-  name-most = leb-true _ _ (&&-right (leb 4 (length (nameAt k))) _ long-name)
-
   pub key-alone : keyOf (nameAt k) ≡ k
-  unfolding hashed alone
-  key-alone = eqb-true _ _ (&&-left _ _ (&&-right (placed k && long-enough k) _ (at hashed 28 hashes k h)))
+  unfolding own-name alone
+  key-alone = eqb-true _ _ (&&-left (alone k) _ (at own-name 28 own-names k h))
 
-  pub key-formed : goodName (nameAt k) ≡ true
-  unfolding hashed formed-name
-  key-formed = &&-right (alone k) _ (&&-right (placed k && long-enough k) _ (at hashed 28 hashes k h))
+  key-formed : goodName (nameAt k) ≡ true
+  unfolding own-name formed-name
+  key-formed = &&-right (alone k) _ (at own-name 28 own-names k h)
 
 pub same-refl : (n : List ℕ) → same n n ≡ true
 unfolding same
 same-refl [] = refl
 same-refl (x ∷ n) = rw (eq-eqb x x refl) (same-refl n)
 
--- A name that is known: it has the bytes of its key's name, a good form, and its key in its place.
-module _ (n : List ℕ) (p : keyOf n < 28) where
-  pub known-same : same n (nameAt (keyOf n)) ≡ true
-  known-same = ap (same n) (sym (known-name n p)) ∙ same-refl n
-
-  pub known-long : (4 ≤ length n) × (length n ≤ 24)
-  known-long = let e : length n ≡ length (nameAt (keyOf n)) = ap length (known-name n p) in (omega (arith, e, name-least (keyOf n) p), omega (arith, e, name-most (keyOf n) p))
-
-  pub known-place : getD places ((length n * 4 + getD n 0 0 * 3 + getD n 3 0) % 64) 0 ≡ keyOf n
-  known-place = subst (λ (m : List ℕ). getD places ((length m * 4 + getD m 0 0 * 3 + getD m 3 0) % 64) 0 ≡ keyOf n) (sym (known-name n p)) (place-key (keyOf n) p)
+-- A name that is known has the bytes of its key's name.
+pub known-same : (n : List ℕ) → keyOf n < 28 → same n (nameAt (keyOf n)) ≡ true
+known-same n p = ap (same n) (sym (known-name n p)) ∙ same-refl n
 
 pub unknown : (n : List ℕ) → (keyOf n < 28 → ⊥) → 28 ≡ keyOf n
 unknown n h = omega (arith, key-most n, h)

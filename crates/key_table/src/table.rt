@@ -1,10 +1,8 @@
 // The known keys: one table of names, and one of the twelve keys that have a rule, a range and a standard value.
 use crate::parameters::Parameters;
-use text::slice::same_bytes;
 ghost use mathlib.Core.Path.{_≡_};
-ghost use Prim.Native.Nat.{_≤_, _<_};
-ghost use Rattle.text.specs.Text.{same};
-ghost use Rattle.key_table.specs.Table.{nameAt, keyOf, kindAt, rowAt};
+ghost use Prim.Native.Nat.{_<_};
+ghost use Rattle.key_table.specs.Table.{kindAt, rowAt};
 
 // What a known key is, in the order of the rules that judge it.
 pub enum Kind {
@@ -118,50 +116,4 @@ pub fn kind_of(k: usize) -> Kind
         20..=23 => Kind::Marker,
         _ => Kind::Refused,
     }
-}
-
-// The one key that may bear this name, KNOWN where none may: no two names have one place, which the length and two bytes give.
-fn candidate(name: &[u8]) -> usize
-    ensures { λ r. ⌜ (keyOf (now (name .entry)) < 28 → r ≡ keyOf (now (name .entry))) × (r ≤ 28) ⌝ }
-{
-    let n = name.len();
-    if n < 4 {
-        return KNOWN;
-    }
-    if 24 < n {
-        return KNOWN;
-    }
-    let place = (n * 4 + name[0] as usize * 3 + name[3] as usize) % 64;
-    let keys =
-        b"\x1c\x1c\x1c\x10\x1c\x08\x0b\x13\x1c\x1b\x1c\x11\x1c\x1c\x1c\x18\x1c\x1c\x1c\x0f\x1c\x0d\x1c\x19\x12\x06\x1c\x0e\x14\x1c\x1c\x1c\x16\x07\x00\x1c\x1c\x03\x1c\x1c\x1c\x1c\x1c\x1c\x0c\x09\x15\x1c\x1c\x1c\x17\x1a\x05\x0a\x1c\x02\x1c\x04\x01\x1c\x1c\x1c\x1c\x1c";
-    keys[place] as usize
-}
-
-// The name is that of key k, compared whole: as long, and the same bytes as the first of the 24 that begin at 24 * k.
-fn is_name(name: &[u8], k: usize) -> bool
-    requires { ⌜ k < 28 ⌝ }
-    ensures { λ r. ⌜ r ≡ same (now (name .entry)) (nameAt k) ⌝ }
-{
-    let lengths =
-        b"\x0e\x11\x0a\x0e\x13\x0d\x18\x0e\x10\x10\x12\x12\x0c\x0a\x0d\x0a\x0d\x0a\x0b\x0e\x08\x08\x09\x09\x0b\x0d\x14\x0b";
-    let n = lengths[k] as usize;
-    if name.len() != n {
-        return false;
-    }
-    let names: &[u8] =
-        b"MaxConnections..........MaxOutstandingR2T.......InitialR2T..............DataPDUInOrder..........DataSequenceInOrder.....ImmediateData...........MaxRecvDataSegmentLengthMaxBurstLength..........FirstBurstLength........DefaultTime2Wait........DefaultTime2Retain......ErrorRecoveryLevel......HeaderDigest............DataDigest..............TaskReporting...........AuthMethod..............InitiatorName...........TargetName..............SessionType.............InitiatorAlias..........IFMarker................OFMarker................IFMarkInt...............OFMarkInt...............TargetAlias.............TargetAddress...........TargetPortalGroupTag....SendTargets.............";
-    let a = k * 24;
-    let e = a + n;
-    same_bytes(name, &names[a..e])
-}
-
-// The key that bears this name, KNOWN where none does.
-pub fn key_of(name: &[u8]) -> usize
-    ensures { λ r. ⌜ (r ≡ keyOf (now (name .entry))) × (r ≤ 28) ⌝ }
-{
-    let k = candidate(name);
-    if k == KNOWN {
-        return KNOWN;
-    }
-    if is_name(name, k) { k } else { KNOWN }
 }

@@ -1,9 +1,9 @@
 // The pairs of a block, judged left to right and answered in their order; the first refusal decides.
+use key_lookup::key_of;
 use key_replies::answer::put_said;
 use key_settled::settle_pair;
 use key_table::parameters::Settled;
 use key_table::table::KNOWN;
-use key_table::table::key_of;
 use key_values::value::Judgement;
 use keys::judge::judge_pair;
 use text_block::block::MAX_PAIRS;
