@@ -7,7 +7,7 @@ use native.Mathlib.Omega.{arith}
 use lib.ListN.{length, getD}
 use lib.Dec.{leb, eqb}
 use borrow.Author.Tests.{leb-true, eqb-true, eq-eqb}
-use Rattle.text.specs.Text.{bytes, has}
+use Rattle.text.specs.Text.{has}
 use Rattle.text.proofs.Laws.{below, at, false-true}
 use Rattle.key_table.specs.Table.{known, nameAt}
 use Rattle.key_names.specs.Candidates.{shares, candidates, candidatesOf, Lawful}
@@ -17,7 +17,10 @@ use Rattle.key_names.proofs.Laws.{lawful, below-known, shared}
 use Rattle.key_names.proofs.Words.{name-least, name-most}
 
 abbrev pub places : List ℕ
-places = bytes "\u{c}\u{1c}\u{1}\u{1c}\u{1c}\u{f}\u{1c}\u{1c}\r\u{1c}\u{1c}\u{1c}\u{1c}\u{2}\n\u{b}\u{1c}\u{1c}\u{1a}\u{1c}\u{1c}\u{1c}\u{5}\u{1c}\u{11}\u{14}\t\u{1c}\u{8}\u{1c}\u{1c}\u{15}\u{1c}\u{e}\u{1c}\u{4}\u{1c}\u{1c}\u{3}\u{1c}\u{1c}\u{6}\u{1c}\u{13}\u{12}\u{18}\u{16}\0\u{1c}\u{1c}\u{1c}\u{1c}\u{17}\u{1c}"
+places =
+    12 ∷ 28 ∷ 1 ∷ 28 ∷ 28 ∷ 15 ∷ 28 ∷ 28 ∷ 13 ∷ 28 ∷ 28 ∷ 28 ∷ 28 ∷ 2 ∷ 10 ∷ 11 ∷ 28 ∷ 28
+    ∷ 26 ∷ 28 ∷ 28 ∷ 28 ∷ 5 ∷ 28 ∷ 17 ∷ 20 ∷ 9 ∷ 28 ∷ 8 ∷ 28 ∷ 28 ∷ 21 ∷ 28 ∷ 14 ∷ 28 ∷ 4
+    ∷ 28 ∷ 28 ∷ 3 ∷ 28 ∷ 28 ∷ 6 ∷ 28 ∷ 19 ∷ 18 ∷ 24 ∷ 22 ∷ 0 ∷ 28 ∷ 28 ∷ 28 ∷ 28 ∷ 23 ∷ 28 ∷ []
 
 abbrev pub place : List ℕ → ℕ
 place n = (length n * 21 + getD n 0 0) % 54

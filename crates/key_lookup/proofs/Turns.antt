@@ -22,7 +22,8 @@ pub none-yet : (n : List ℕ) → NoneOf n 0
 none-yet n j h = absurd (omega (arith, h))
 
 -- the two of the code
-pub at-two : (n : List ℕ) (l : List ℕ) (i d : ℕ) → l ≡ getD (candidatesOf n) 0 28 ∷ getD (candidatesOf n) 1 28 ∷ [] → i < 2 → getD l i d ≡ getD (candidatesOf n) i 28
+pub at-two : (n : List ℕ) (l : List ℕ) (i d : ℕ) → l ≡ getD (candidatesOf n) 0 28 ∷ getD (candidatesOf n) 1 28 ∷ []
+    → i < 2 → getD l i d ≡ getD (candidatesOf n) i 28
 at-two n l zero d e h = rw e refl
 at-two n l (suc zero) d e h = rw e refl
 at-two n l (suc (suc i)) d e h = absurd (omega (arith, h))

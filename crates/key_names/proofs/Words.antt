@@ -47,7 +47,8 @@ module _ (s t : List ℕ) (p : (i : ℕ) → getD s i 0 < 256) (q : (i : ℕ) �
       subst (λ (j : ℕ). getD s j 0 ≡ getD t j 0) z (be-same 8 e (i - start) (omega arith))
 
 -- The first eight bytes, the middle and the last eight are all bytes of a name of 8 to 24.
-module _ (s t : List ℕ) (p : (i : ℕ) → getD s i 0 < 256) (q : (i : ℕ) → getD t i 0 < 256) (l : length s ≡ length t) (least : 8 ≤ length s) (most : length s ≤ 24) where
+module _ (s t : List ℕ) (p : (i : ℕ) → getD s i 0 < 256) (q : (i : ℕ) → getD t i 0 < 256) (l : length s ≡ length t)
+    (least : 8 ≤ length s) (most : length s ≤ 24) where
   where-go : beAt s 0 8 ≡ beAt t 0 8 → beAt s (middleAt (length s)) 8 ≡ beAt t (middleAt (length s)) 8 → beAt s (length s - 8) 8 ≡ beAt t (length s - 8) 8
       → (i : ℕ) → i < length s → (a b : Bool) → ltb i 8 ≡ a → ltb i (length s - 8) ≡ b → getD s i 0 ≡ getD t i 0
   unfolding middleAt
@@ -59,7 +60,8 @@ module _ (s t : List ℕ) (p : (i : ℕ) → getD s i 0 < 256) (q : (i : ℕ) �
       let m : ltb (length s) 16 ≡ false = le-ltb (length s) 16 (omega (arith, a, b)) in
       byte-same s t p q 8 (rw m at y) i a (omega (arith, b, most))
 
-  same-words : beAt s 0 8 ≡ beAt t 0 8 → beAt s (middleAt (length s)) 8 ≡ beAt t (middleAt (length s)) 8 → beAt s (length s - 8) 8 ≡ beAt t (length s - 8) 8 → s ≡ t
+  same-words : beAt s 0 8 ≡ beAt t 0 8 → beAt s (middleAt (length s)) 8 ≡ beAt t (middleAt (length s)) 8
+      → beAt s (length s - 8) 8 ≡ beAt t (length s - 8) 8 → s ≡ t
   same-words x y z = ext-getD 0 s t l (λ i h. where-go x y z i h (ltb i 8) (ltb i (length s - 8)) refl refl)
 
 -- The known names have 8 to 24 bytes.
@@ -133,14 +135,17 @@ module _ (n : List ℕ) (k : ℕ) (c : has k (candidatesOf n) ≡ true) where
       let hm = &&-left _ _ w in
       let x : beAt n 0 8 ≡ beAt (nameAt k) 0 8 = eqb-true _ _ (&&-left _ _ hm) in
       let y : beAt n m 8 ≡ beAt (nameAt k) (middleAt (length (nameAt k))) 8 = eqb-true _ _ (&&-right (eqb (beAt n 0 8) (beAt (nameAt k) 0 8)) _ hm) in
-      let z : beAt n (length n - 8) 8 ≡ beAt (nameAt k) (length (nameAt k) - 8) 8 = eqb-true _ _ (&&-right (eqb (beAt n 0 8) (spelt k .head) && eqb (beAt n m 8) (spelt k .middle)) _ w) in
+      let z : beAt n (length n - 8) 8 ≡ beAt (nameAt k) (length (nameAt k) - 8) 8 =
+      eqb-true _ _ (&&-right (eqb (beAt n 0 8) (spelt k .head) && eqb (beAt n m 8) (spelt k .middle)) _ w) in
       let u = same-words n (nameAt k) p (known-bytes k candidate-key) (sym l) name-least name-most x (rw (e, l) at y) (rw l at z) in
       subst (λ (t : List ℕ). same n t ≡ true) u (same-refl n)
 
   of-words : (m : ℕ) → m ≡ middleAt (length n) → same n (nameAt k) ≡ true
       → ((eqb (beAt n 0 8) (spelt k .head) && eqb (beAt n m 8) (spelt k .middle)) && eqb (beAt n (length n - 8) 8) (spelt k .tail)) ≡ true
   unfolding spelt
-  of-words m e h = let u = same-eq n (nameAt k) h in rw (e, sym u, eq-eqb (beAt n 0 8) _ refl, eq-eqb (beAt n (middleAt (length n)) 8) _ refl, eq-eqb (beAt n (length n - 8) 8) _ refl) refl
+  of-words m e h =
+      let equal : (x : ℕ) → eqb x x ≡ true = λ x. eq-eqb x x refl in
+      rw (e, sym (same-eq n (nameAt k) h), equal (beAt n 0 8), equal (beAt n (middleAt (length n)) 8), equal (beAt n (length n - 8) 8)) refl
 
   pub whole : ((i : ℕ) → getD n i 0 < 256) → (name : KnownName) (m a b d : ℕ) → name ≡ spelt k → m ≡ middleAt (length n) → a ≡ beAt n 0 8 → b ≡ beAt n m 8
       → d ≡ beAt n (length n - 8) 8 → ((eqb a (name .head) && eqb b (name .middle)) && eqb d (name .tail)) ≡ same n (nameAt k)

@@ -1,7 +1,7 @@
 //! The calls that are timed.
 
 use crate::timing::nanoseconds;
-use calls::{Engine, HEADER_BYTES, Holder, Numbers, Response, TEXT_BYTES, Task};
+use calls::{Engine, HEADER_BYTES, Holder, Numbers, Refusal, Response, TEXT_BYTES, Task};
 use std::hint::black_box;
 use testkit::Bytes;
 use testkit::pdu;
@@ -46,6 +46,10 @@ pub fn all<E: Engine + Default>() -> Vec<Case> {
         ("holder, free", || holder::<E>(40)),
         ("open + logout", open_logout::<E>),
         ("login of 19 keys", login::<E>),
+        ("23 pairs, known", block_of_known::<E>),
+        ("64 pairs, known, twice", known_twice::<E>),
+        ("64 pairs, unknown", block_of_unknown::<E>),
+        ("64 pairs, mixed", block_of_both::<E>),
     ]
 }
 
@@ -238,21 +242,122 @@ fn open_logout<E: Engine + Default>() -> f64 {
     })
 }
 
+/// The name of the benchmark's target, and the pairs of both names, which a first block has.
+const TARGET: &str = "iqn.2026-11.example:drawbevel";
+const NAMES: [&str; 2] = [
+    "InitiatorName=iqn.2026-11.example:station",
+    "TargetName=iqn.2026-11.example:drawbevel",
+];
+
+/// Every other known key that one block of the operational stage may have, once each.
+const KNOWN: [&str; 21] = [
+    "SessionType=Normal",
+    "HeaderDigest=CRC32C,None",
+    "DataDigest=None",
+    "ErrorRecoveryLevel=1",
+    "InitialR2T=Yes",
+    "ImmediateData=Yes",
+    "MaxRecvDataSegmentLength=65536",
+    "MaxBurstLength=262144",
+    "FirstBurstLength=65536",
+    "MaxConnections=4",
+    "MaxOutstandingR2T=1",
+    "DataPDUInOrder=Yes",
+    "DataSequenceInOrder=Yes",
+    "DefaultTime2Wait=2",
+    "DefaultTime2Retain=20",
+    "TaskReporting=RFC3720",
+    "InitiatorAlias=station",
+    "IFMarker=No",
+    "OFMarker=No",
+    "IFMarkInt=2048",
+    "OFMarkInt=2048",
+];
+
+/// Names of RFC 7143's other documents and of vendors, none of them known here.
+const UNKNOWN: [&str; 16] = [
+    "X-com.example.stationRate=100",
+    "RDMAExtensions=Yes",
+    "TargetRecvDataSegmentLength=8192",
+    "InitiatorRecvDataSegmentLength=8192",
+    "MaxOutstandingUnexpectedPDUs=0",
+    "MaxAHSLength=256",
+    "TaggedBufferForSolicitedDataOnly=No",
+    "X#NodeArchitecture=x86",
+    "X-org.example.Channel=BHZ",
+    "CHAP_A=5",
+    "CHAP_N=station",
+    "KRB_AP_REQ=0x00",
+    "SRP_U=station",
+    "X-net.example.gain=1",
+    "MaxConnectionz=4",
+    "InitialR2X=Yes",
+];
+
+/// Unknown pairs, as many as are wanted.
+fn unknown(count: usize) -> impl Iterator<Item = &'static str> {
+    UNKNOWN.into_iter().cycle().take(count)
+}
+
 /// What libiscsi sends, in one request to full feature phase.
 fn login<E: Engine + Default>() -> f64 {
-    let mut engine = E::default();
-    let target = "iqn.2026-11.example:drawbevel";
-    let name = format!("TargetName={target}");
-    let mut pairs = vec!["InitiatorName=iqn.2026-11.example:station", &name];
-    pairs.extend(LIBISCSI);
+    let pairs: Vec<&str> = NAMES.into_iter().chain(LIBISCSI).collect();
     assert_eq!(pairs.len(), 19);
+    judged::<E>(&pairs)
+}
+
+/// The longest block of known names that is answered.
+fn block_of_known<E: Engine + Default>() -> f64 {
+    let pairs: Vec<&str> = NAMES.into_iter().chain(KNOWN).collect();
+    assert_eq!(pairs.len(), 23);
+    judged::<E>(&pairs)
+}
+
+/// 64 pairs of known names. A name that comes twice is refused, so the twenty-fourth is.
+fn known_twice<E: Engine + Default>() -> f64 {
+    let pairs: Vec<&str> = NAMES.into_iter().chain(KNOWN).cycle().take(64).collect();
+    let mut engine = E::default();
     let bytes = pdu::login(0x87, &pdu::block(&pairs));
     let (mut gather, mut text) = ([0; TEXT_BYTES], [0; TEXT_BYTES]);
-    engine.begin_login(target.as_bytes());
+    let mut step = || {
+        engine.begin_login(black_box(TARGET.as_bytes()));
+        engine.login(0, 7, &mut gather, &mut text, black_box(&bytes.0))
+    };
+    assert_eq!(step(), Err(Refusal::Login(0x0200)));
+    nanoseconds(|| {
+        let _ = black_box(step());
+    })
+}
+
+/// 64 pairs, of which all names but the two that must be there are unknown.
+fn block_of_unknown<E: Engine + Default>() -> f64 {
+    let pairs: Vec<&str> = NAMES.into_iter().chain(unknown(62)).collect();
+    judged::<E>(&pairs)
+}
+
+/// 64 pairs: the known names that may stand in one block, each followed by an unknown one or two.
+fn block_of_both<E: Engine + Default>() -> f64 {
+    let mut others = unknown(41);
+    let mut pairs = NAMES.to_vec();
+    for known in KNOWN {
+        pairs.push(known);
+        pairs.extend(others.next());
+        pairs.extend(others.next());
+    }
+    assert_eq!((pairs.len(), others.next()), (64, None));
+    judged::<E>(&pairs)
+}
+
+/// A login of one request, whose block is answered.
+fn judged<E: Engine + Default>(pairs: &[&str]) -> f64 {
+    let mut engine = E::default();
+    let bytes = pdu::login(0x87, &pdu::block(pairs));
+    let (mut gather, mut text) = ([0; TEXT_BYTES], [0; TEXT_BYTES]);
+    engine.begin_login(TARGET.as_bytes());
     let answer = engine.login(0, 7, &mut gather, &mut text, &bytes.0);
     assert_eq!(answer.unwrap().stage, 3);
     nanoseconds(|| {
-        engine.begin_login(black_box(target.as_bytes()));
+        engine.begin_login(black_box(TARGET.as_bytes()));
         let _ = black_box(engine.login(0, 7, &mut gather, &mut text, black_box(&bytes.0)));
         black_box(&text);
     })

@@ -373,6 +373,10 @@ pub enum Fault {
     FirstBurstBounded,
     /// A key that comes twice is accepted.
     TwiceAccepted,
+    /// A name of the length and first letter of two known names is taken for the first of them.
+    NameNotWhole,
+    /// The second of two known names of one length and first letter isn't known.
+    SecondCandidateUnknown,
     /// Names that are missing are 0x0200.
     MissingIsInitiatorError,
     /// T is answered without being asked.
@@ -405,7 +409,7 @@ pub enum Fault {
 
 impl Fault {
     /// Every fault.
-    pub const ALL: [Fault; 192] = [
+    pub const ALL: [Fault; 194] = [
         Fault::OpcodeBeforeShort,
         Fault::LengthBeforeTooLong,
         Fault::PadWordTooMany,
@@ -584,6 +588,8 @@ impl Fault {
         Fault::Time2WaitSmaller,
         Fault::FirstBurstBounded,
         Fault::TwiceAccepted,
+        Fault::NameNotWhole,
+        Fault::SecondCandidateUnknown,
         Fault::MissingIsInitiatorError,
         Fault::TransitUnasked,
         Fault::HandleEarly,

@@ -24,7 +24,9 @@ sub-word : tie.Need-sub-word
 sub-word c = let s = c .before .before .before .before .before .before .before in omega (arith, name-least (now (s .args .name)) (s .args .k) (s .pre))
 
 word-requires-3 : tie.Need-word-requires-3
-word-requires-3 c κs = let s = c .before .before .before .before .before .before .before in omega (arith, name-least (now (s .args .name)) (s .args .k) (s .pre))
+word-requires-3 c κs =
+    let s = c .before .before .before .before .before .before .before in
+    omega (arith, name-least (now (s .args .name)) (s .args .k) (s .pre))
 
 returns : tie.Need-returns
 returns c =

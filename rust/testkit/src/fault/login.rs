@@ -23,6 +23,12 @@ impl<E: Engine + Clone> Broken<E> {
         if self.is(Fault::TwiceAccepted) {
             shown = without_repeats(&shown);
         }
+        if self.is(Fault::NameNotWhole) {
+            shown = renamed(&shown, candidate);
+        }
+        if self.is(Fault::SecondCandidateUnknown) {
+            shown = renamed(&shown, without_second);
+        }
         let handle = shown
             .get(14..16)
             .map_or(0, |b| u16::from_be_bytes([b[0], b[1]]));
@@ -76,27 +82,73 @@ impl<E: Engine + Clone> Broken<E> {
     }
 }
 
-/// The request without pairs whose name stood in it before.
-fn without_repeats(pdu: &[u8]) -> Vec<u8> {
-    if pdu.len() < HEADER_BYTES {
-        return pdu.to_vec();
+/// The known names that are two of one length and first letter, the first of them first.
+const SHARING: [[&[u8]; 2]; 4] = [
+    [b"MaxConnections", b"MaxBurstLength"],
+    [b"ImmediateData", b"InitiatorName"],
+    [b"TaskReporting", b"TargetAddress"],
+    [b"SessionType", b"SendTargets"],
+];
+
+/// The first known name of this length and letter, where there are two; the name itself where it is the second.
+fn candidate(name: &[u8]) -> Vec<u8> {
+    let shares = |known: &[u8]| known.len() == name.len() && known.first() == name.first();
+    match SHARING.iter().find(|[first, _]| shares(first)) {
+        Some([first, second]) if *second != name => first.to_vec(),
+        _ => name.to_vec(),
     }
-    let length = usize::from(pdu[6]) << 8 | usize::from(pdu[7]);
-    let Some(data) = pdu.get(HEADER_BYTES..HEADER_BYTES + length) else {
+}
+
+/// A name that isn't known for the second of two.
+fn without_second(name: &[u8]) -> Vec<u8> {
+    match SHARING.iter().any(|[_, second]| *second == name) {
+        true => [b"X", &name[1..]].concat(),
+        false => name.to_vec(),
+    }
+}
+
+/// The pairs of a request that ends with one; none of a PDU that isn't such a request.
+fn pairs(pdu: &[u8]) -> Option<Vec<&[u8]>> {
+    let length = usize::from(*pdu.get(6)?) << 8 | usize::from(*pdu.get(7)?);
+    let data = pdu.get(HEADER_BYTES..HEADER_BYTES + length)?;
+    let pairs = data.strip_suffix(b"\0")?;
+    Some(pairs.split(|&byte| byte == 0).collect())
+}
+
+/// The request with these pairs.
+fn with_pairs(pdu: &[u8], pairs: &[Vec<u8>]) -> Vec<u8> {
+    let data: Vec<u8> = pairs
+        .iter()
+        .flat_map(|pair| [pair, &b"\0"[..]].concat())
+        .collect();
+    Bytes(pdu[..HEADER_BYTES].to_vec()).data(&data).0
+}
+
+/// The request with other names in its pairs.
+fn renamed(pdu: &[u8], rename: fn(&[u8]) -> Vec<u8>) -> Vec<u8> {
+    let Some(pairs) = pairs(pdu) else {
         return pdu.to_vec();
     };
-    if !data.ends_with(b"\0") {
+    let renamed = pairs.iter().map(|pair| {
+        let length = pair.iter().position(|&byte| byte == b'=').unwrap_or(0);
+        [&rename(&pair[..length]), &pair[length..]].concat()
+    });
+    with_pairs(pdu, &renamed.collect::<Vec<_>>())
+}
+
+/// The request without pairs whose name stood in it before.
+fn without_repeats(pdu: &[u8]) -> Vec<u8> {
+    let Some(pairs) = pairs(pdu) else {
         return pdu.to_vec();
-    }
+    };
     let mut names = Vec::new();
     let mut kept = Vec::new();
-    for pair in data[..length - 1].split(|&byte| byte == 0) {
+    for pair in pairs {
         let name = pair.split(|&byte| byte == b'=').next().unwrap_or_default();
         if !names.contains(&name) || name.starts_with(b"X") {
             names.push(name);
-            kept.extend_from_slice(pair);
-            kept.push(0);
+            kept.push(pair.to_vec());
         }
     }
-    Bytes(pdu[..HEADER_BYTES].to_vec()).data(&kept).0
+    with_pairs(pdu, &kept)
 }

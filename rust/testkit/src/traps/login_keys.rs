@@ -18,6 +18,7 @@ checks![
     trap_52_markers,
     trap_53_lengths_of_names,
     trap_54_whole_names,
+    names_beside_known_ones,
     wrong_stage,
     either_stage,
     digests_and_task_reporting,
@@ -334,6 +335,70 @@ fn trap_54_whole_names(e: &mut dyn Engine) {
         let said = Talk::new(e).ask(OPERATIONAL, &block(&[&format!("TargetName={other}")]));
         assert_eq!(status(said), 0x0203);
     }
+}
+
+/// The known names, but the two that every first block has.
+const KNOWN: [&str; 26] = [
+    "MaxConnections",
+    "MaxOutstandingR2T",
+    "InitialR2T",
+    "DataPDUInOrder",
+    "DataSequenceInOrder",
+    "ImmediateData",
+    "MaxRecvDataSegmentLength",
+    "MaxBurstLength",
+    "FirstBurstLength",
+    "DefaultTime2Wait",
+    "DefaultTime2Retain",
+    "ErrorRecoveryLevel",
+    "HeaderDigest",
+    "DataDigest",
+    "TaskReporting",
+    "AuthMethod",
+    "SessionType",
+    "InitiatorAlias",
+    "IFMarker",
+    "OFMarker",
+    "IFMarkInt",
+    "OFMarkInt",
+    "TargetAlias",
+    "TargetAddress",
+    "TargetPortalGroupTag",
+    "SendTargets",
+];
+
+/// A name that differs from a known one in one byte, wherever that stands, or is a byte longer or shorter, isn't known.
+fn names_beside_known_ones(e: &mut dyn Engine) {
+    for known in KNOWN.into_iter().chain(["InitiatorName", "TargetName"]) {
+        let mut beside = vec![format!("{known}s"), known[..known.len() - 1].to_string()];
+        for place in 0..known.len() {
+            let mut name = known.to_string();
+            let other = if &known[place..=place] == "Q" {
+                "R"
+            } else {
+                "Q"
+            };
+            name.replace_range(place..=place, other);
+            beside.push(name);
+        }
+        let offers: Vec<String> = beside.iter().map(|name| format!("{name}=1")).collect();
+        let answers: Vec<String> = beside
+            .iter()
+            .map(|name| format!("{name}=NotUnderstood"))
+            .collect();
+        let said = text(e, &borrowed(&offers));
+        assert_eq!(said, first(&borrowed(&answers)), "{known}");
+    }
+    // A name that isn't known may come twice; a known one is refused, at its second coming at the latest.
+    for known in KNOWN {
+        let twice = [&*format!("{known}=None"), &format!("{known}=None")];
+        assert_eq!(refused(e, OPERATIONAL, &twice), 0x0200, "{known}");
+    }
+}
+
+/// Texts as `block` takes them.
+fn borrowed(texts: &[String]) -> Vec<&str> {
+    texts.iter().map(String::as_str).collect()
 }
 
 fn wrong_stage(e: &mut dyn Engine) {
