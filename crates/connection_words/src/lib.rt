@@ -91,7 +91,7 @@ pub fn logout(n: &mut [u32; 15], m: &mut [u64; 6], conn: u32, reason: u8, answer
         } => {
             store_window(n, m, window);
             close(n, conn, closes);
-            *answer = answer_words::logged_out(emptied, voided);
+            *answer = call_answer_words::logged_out(emptied, voided);
         }
     }
 }

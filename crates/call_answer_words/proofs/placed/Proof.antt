@@ -1,6 +1,6 @@
 use borrow.Author.Needs.{needs}
-use Rattle.answer_words.proofs.placed.Statement.{statement}
-use Rattle.answer_words.proofs.placed.Tie as tie
+use Rattle.call_answer_words.proofs.placed.Statement.{statement}
+use Rattle.call_answer_words.proofs.placed.Tie as tie
 
 returns : tie.Need-returns
 returns c = rw (c .before .enum-told .given .1) (c .pack .ensures)

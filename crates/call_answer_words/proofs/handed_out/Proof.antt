@@ -1,6 +1,6 @@
 use borrow.Author.Needs.{needs}
-use Rattle.answer_words.proofs.handed_out.Statement.{statement}
-use Rattle.answer_words.proofs.handed_out.Tie as tie
+use Rattle.call_answer_words.proofs.handed_out.Statement.{statement}
+use Rattle.call_answer_words.proofs.handed_out.Tie as tie
 
 returns-2 : tie.Need-returns-2
 returns-2 c = rw (c .before .a .given .1)

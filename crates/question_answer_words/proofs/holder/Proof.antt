@@ -1,6 +1,6 @@
 use borrow.Author.Needs.{needs}
-use Rattle.answer_words.proofs.holder.Statement.{statement}
-use Rattle.answer_words.proofs.holder.Tie as tie
+use Rattle.question_answer_words.proofs.holder.Statement.{statement}
+use Rattle.question_answer_words.proofs.holder.Tie as tie
 
 returns-3 : tie.Need-returns-3
 returns-3 c = rw (c .before .before .a .given .1, c .origin-word .ensures)

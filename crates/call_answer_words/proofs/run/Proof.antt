@@ -1,6 +1,6 @@
 use borrow.Author.Needs.{needs}
-use Rattle.answer_words.proofs.run.Statement.{statement}
-use Rattle.answer_words.proofs.run.Tie as tie
+use Rattle.call_answer_words.proofs.run.Statement.{statement}
+use Rattle.call_answer_words.proofs.run.Tie as tie
 
 returns : tie.Need-returns
 returns c = rw (c .before .before .a .given .1) (c .refused .ensures)
