@@ -1,6 +1,6 @@
 use borrow.Author.Needs.{needs}
-use Rattle.connection_words.proofs.fresh.Statement.{statement}
-use Rattle.connection_words.proofs.fresh.Tie as tie
+use Rattle.fresh_words.proofs.fresh.Statement.{statement}
+use Rattle.fresh_words.proofs.fresh.Tie as tie
 
 returns : tie.Need-returns
 returns c =
