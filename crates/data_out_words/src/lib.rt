@@ -3,8 +3,8 @@
 use session_words::load;
 use task::DataOutAnswer;
 use task::DataSnackAnswer;
-use task_words::store_data_in;
-use task_words::store_data_out;
+use task_changes::store_data_in;
+use task_changes::store_data_out;
 ghost use mathlib.Core.List.{List};
 ghost use Prim.Native.Nat.{ℕ};
 ghost use Rattle.window.specs.Agree.{Commands};

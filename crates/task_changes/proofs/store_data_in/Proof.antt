@@ -1,9 +1,9 @@
 use native.Mathlib.Omega.{arith}
 use lib.ListN.{length-set}
 use borrow.Author.Needs.{needs}
-use Rattle.task_words.proofs.Kept.{data-in-kept}
-use Rattle.task_words.proofs.store_data_in.Statement.{statement}
-use Rattle.task_words.proofs.store_data_in.Tie as tie
+use Rattle.task_changes.proofs.Kept.{data-in-kept}
+use Rattle.task_changes.proofs.store_data_in.Statement.{statement}
+use Rattle.task_changes.proofs.store_data_in.Tie as tie
 
 slice-write-n-5 : tie.Need-slice-write-n-5
 slice-write-n-5 c = simp length-set (omega arith)

@@ -1,7 +1,7 @@
 use borrow.Author.Needs.{needs}
-use Rattle.task_words.proofs.Kept.{data-out-kept}
-use Rattle.task_words.proofs.store_data_out.Statement.{statement}
-use Rattle.task_words.proofs.store_data_out.Tie as tie
+use Rattle.task_changes.proofs.Kept.{data-out-kept}
+use Rattle.task_changes.proofs.store_data_out.Statement.{statement}
+use Rattle.task_changes.proofs.store_data_out.Tie as tie
 
 returns : tie.Need-returns
 returns c =

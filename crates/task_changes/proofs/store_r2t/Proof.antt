@@ -1,9 +1,9 @@
 use native.Mathlib.Omega.{arith}
 use lib.ListN.{length-set}
 use borrow.Author.Needs.{needs}
-use Rattle.task_words.proofs.Kept.{r2t-kept}
-use Rattle.task_words.proofs.store_r2t.Statement.{statement}
-use Rattle.task_words.proofs.store_r2t.Tie as tie
+use Rattle.task_changes.proofs.Kept.{r2t-kept}
+use Rattle.task_changes.proofs.store_r2t.Statement.{statement}
+use Rattle.task_changes.proofs.store_r2t.Tie as tie
 
 slice-write-n-5 : tie.Need-slice-write-n-5
 slice-write-n-5 c = simp length-set (omega arith)
