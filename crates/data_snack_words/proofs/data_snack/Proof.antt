@@ -1,8 +1,8 @@
 use mathlib.Core.Path.{refl}
 use borrow.Author.Needs.{needs}
 use Rattle.transfer_words.proofs.Outcomes.{refused-moves, moved-moves, kept-record}
-use Rattle.data_out_words.proofs.data_snack.Statement.{statement}
-use Rattle.data_out_words.proofs.data_snack.Tie as tie
+use Rattle.data_snack_words.proofs.data_snack.Statement.{statement}
+use Rattle.data_snack_words.proofs.data_snack.Tie as tie
 
 returns : tie.Need-returns
 returns c k ss tags ends =
