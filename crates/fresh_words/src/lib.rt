@@ -1,7 +1,7 @@
 // A fresh session on words: its numbers and maps, and its arrays.
 use book::Given;
 use book::Opening;
-use session_words::store;
+use session_kept::store;
 ghost use Rattle.window.specs.Agree.{commands};
 ghost use Rattle.ledger.specs.Agree.{statusesIn};
 ghost use Rattle.call_words.specs.Given.{givenOf};

@@ -1,11 +1,11 @@
 use mathlib.Core.Path.{_≡_, refl, sym, _∙_}
 use lib.ListN.{length, length-map}
 use Rattle.session_state.specs.After.{connAt}
 use Rattle.session_words.specs.State.{sessionNumbers}
-use Rattle.session_words.proofs.Kept.{kept}
+use Rattle.session_kept.proofs.Kept.{kept}
 use borrow.Author.Needs.{needs}
-use Rattle.session_words.proofs.store.Statement.{statement}
-use Rattle.session_words.proofs.store.Tie as tie
+use Rattle.session_kept.proofs.store.Statement.{statement}
+use Rattle.session_kept.proofs.store.Tie as tie
 
 returns : tie.Need-returns
 unfolding sessionNumbers connAt
