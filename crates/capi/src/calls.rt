@@ -204,7 +204,7 @@ pub extern "C" fn drawbevel_core_fresh(
         (sessionWords (now (n .exit)) (now (m .exit)) (commands (now (headers .exit)) (now (tickets .exit)))
         (statusesIn (now (statuses .exit)) (now («status_tickets» .exit)))) ⌝ }
 {
-    connection_words::fresh(
+    fresh_words::fresh(
         n,
         m,
         headers,

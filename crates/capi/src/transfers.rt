@@ -128,5 +128,5 @@ pub extern "C" fn drawbevel_core_data_snack(
         (now (answer .exit)) noOutputs
         (taskWords (now (task .exit)) (now (wide .exit)) tags ends)) ⌝ }
 {
-    data_out_words::data_snack(n, m, conn, pdu, task, wide, offset, answer);
+    data_snack_words::data_snack(n, m, conn, pdu, task, wide, offset, answer);
 }

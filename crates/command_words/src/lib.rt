@@ -35,7 +35,7 @@ pub fn offer(
         OfferAnswer::Immediate => answer_words::pack(IMMEDIATE, 0),
         OfferAnswer::Numbered(x) => {
             store_window(n, m, window);
-            answer_words::placed(x)
+            call_answer_words::placed(x)
         }
     }
 }
@@ -65,7 +65,7 @@ pub fn take(
         }
         TakeAnswer::Taken(x) => {
             store_window(n, m, after);
-            *answer = answer_words::handed_out(x);
+            *answer = call_answer_words::handed_out(x);
         }
     }
 }

@@ -1,6 +1,5 @@
-// A fresh session, and the calls that open and close connections, on words: a session as its numbers and maps.
+// The calls that open and close connections, on words: a session as its numbers and maps.
 use answer_words::DONE;
-use book::Given;
 use book::Opening;
 use session_changes::close;
 use session_changes::store_conn;
@@ -8,46 +7,12 @@ use session_changes::store_window;
 use session_connections::LogoutAnswer;
 use session_connections::OpenAnswer;
 use session_words::load;
-use session_words::store;
-ghost use Rattle.window.specs.Agree.{Commands, commands};
-ghost use Rattle.ledger.specs.Agree.{Statuses, statusesIn};
+ghost use Rattle.window.specs.Agree.{Commands};
+ghost use Rattle.ledger.specs.Agree.{Statuses};
 ghost use Rattle.book.specs.Book.{Call, noOutputs};
 ghost use Rattle.answer_words.specs.Answer.{packed};
-ghost use Rattle.call_words.specs.Given.{openingOf, givenOf};
-ghost use Rattle.call_words.specs.Session.{sessionWords, FreshWords, Said};
-
-// A fresh session: its first command number, connection 0's first StatSN, the ErrorRecoveryLevel.
-pub fn fresh(
-    n: &mut [u32; 15],
-    m: &mut [u64; 6],
-    headers: &mut [u8; 3072],
-    tickets: &mut [u32; 64],
-    statuses: &mut [u8; 6144],
-    status_tickets: &mut [u32; 128],
-    first: u32,
-    stat_sn: u32,
-    level: u8,
-)
-    ensures { λ _. ⌜ FreshWords (givenOf first «stat_sn» level)
-        (sessionWords (now (n .exit)) (now (m .exit)) (commands (now (headers .exit)) (now (tickets .exit)))
-        (statusesIn (now (statuses .exit)) (now («status_tickets» .exit)))) ⌝ }
-{
-    let f = session::fresh(Given {
-        first: first,
-        level: level,
-        opening: Opening { stat_sn: stat_sn },
-    });
-    let s = f.session;
-    let h = f.headers;
-    let t = f.tickets;
-    let hs = f.statuses;
-    let ts = f.status_tickets;
-    *headers = h;
-    *tickets = t;
-    *statuses = hs;
-    *status_tickets = ts;
-    store(n, m, s);
-}
+ghost use Rattle.call_words.specs.Given.{openingOf};
+ghost use Rattle.call_words.specs.Session.{sessionWords, Said};
 
 // Opens a connection that isn't open, with its first StatSN.
 pub fn open(n: &mut [u32; 15], m: &mut [u64; 6], conn: u32, stat_sn: u32) -> u64
@@ -91,7 +56,7 @@ pub fn logout(n: &mut [u32; 15], m: &mut [u64; 6], conn: u32, reason: u8, answer
         } => {
             store_window(n, m, window);
             close(n, conn, closes);
-            *answer = answer_words::logged_out(emptied, voided);
+            *answer = call_answer_words::logged_out(emptied, voided);
         }
     }
 }

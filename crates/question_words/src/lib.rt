@@ -18,7 +18,7 @@ pub fn window(n: &[u32; 15], m: &[u64; 6], answer: &mut [u32; 4])
 {
     let s = load(n, m);
     let a = session_questions::window_numbers(s);
-    *answer = answer_words::numbers(a);
+    *answer = question_answer_words::numbers(a);
 }
 
 // The next StatSN of a connection.
@@ -31,7 +31,7 @@ pub fn next(n: &[u32; 15], m: &[u64; 6], conn: u32) -> u64
 {
     let s = load(n, m);
     let a = session_questions::next_stat_sn(s, conn);
-    answer_words::next(a)
+    question_answer_words::next(a)
 }
 
 // Who holds a number.
@@ -44,7 +44,7 @@ pub fn holder(n: &[u32; 15], m: &[u64; 6], tickets: &[u32; 64], number: u32, ans
 {
     let s = load(n, m);
     let a = session_questions::holder(s, tickets, number);
-    *answer = answer_words::holder(a);
+    *answer = question_answer_words::holder(a);
 }
 
 // The whole length of the PDU that begins with these bytes. It takes nothing of a session.
@@ -52,5 +52,5 @@ pub fn length(bytes: &[u8]) -> u64
     ensures { λ r. ⌜ ((s : SessionWords) → Said (Call.ask (Question.wholeLength (now (bytes .entry)))) s (packed r) noOutputs s) ⌝ }
 {
     let a = session_questions::whole_length(bytes);
-    answer_words::length(a)
+    question_answer_words::length(a)
 }

@@ -41,7 +41,7 @@ pub fn snack(n: &[u32; 15], m: &[u64; 6], conn: u32, pdu: &[u8], answer: &mut [u
 {
     let s = load(n, m);
     let a = session_snack::snack(s, conn, pdu);
-    *answer = answer_words::run(a);
+    *answer = call_answer_words::run(a);
 }
 
 // Sends a held status again, its header with the current window numbers, and of a SCSI Response what it takes of the record, into the first 48
@@ -66,5 +66,5 @@ pub fn resend(
     let s = load(n, m);
     let t = task_words::load(task, wide);
     let a = session_statuses::resend(s, conn, stat_sn, t, statuses, status_tickets, out);
-    answer_words::resent(a)
+    call_answer_words::resent(a)
 }
