@@ -1,7 +1,7 @@
--- `ledger_send::is_status` meets its contract.
+-- `ledger_kinds::is_status` meets its contract.
 use borrow.Author.Needs.{needs}
-use Rattle.ledger_send.proofs.is_status.Statement.{statement}
-use Rattle.ledger_send.proofs.is_status.Tie as tie
+use Rattle.ledger_kinds.proofs.is_status.Statement.{statement}
+use Rattle.ledger_kinds.proofs.is_status.Tie as tie
 
 returns : tie.Need-returns
 returns c = rw (c .before .before .r .given .1)

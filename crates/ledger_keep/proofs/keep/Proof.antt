@@ -1,4 +1,4 @@
--- `ledger_send::keep` meets its contract: the slot of the next number is c's own, and no held status lies in it.
+-- `ledger_keep::keep` meets its contract: the slot of the next number is c's own, and no held status lies in it.
 use Prim.Native.Nat.{_+_, _*_, _%_, _<_}
 use mathlib.Core.Path.{_≡_, refl, _∙_}
 use native.Mathlib.Omega.{arith}
@@ -9,8 +9,8 @@ use Rattle.response_fields.specs.WholeNumbers.{ownBytes}
 use Rattle.response_fields.proofs.Laid.{length-own}
 use Rattle.ledger.specs.Agree.{statusesIn, Puts}
 use Rattle.ledger.proofs.Laws.{stored-agrees, stored-others}
-use Rattle.ledger_send.proofs.keep.Statement.{statement}
-use Rattle.ledger_send.proofs.keep.Tie as tie
+use Rattle.ledger_keep.proofs.keep.Statement.{statement}
+use Rattle.ledger_keep.proofs.keep.Tie as tie
 
 returns : tie.Need-returns
 unfolding Puts
