@@ -4,11 +4,11 @@ use ledger::LEDGER_SLOTS;
 use ledger::Ledger;
 use ledger::SLOTS_EACH;
 use ledger::STATUSES;
-use response_fields::OwnFields;
 use response_header::Numbers;
+use response_layout::OwnFields;
 use store::HEADER_BYTES;
 ghost use Prim.Native.Nat.{_<_};
-ghost use Rattle.response_fields.specs.WholeNumbers.{ownBytes};
+ghost use Rattle.response_layout.specs.WholeNumbers.{ownBytes};
 ghost use Rattle.ledger.specs.Book.{statuses, connections};
 ghost use Rattle.ledger.specs.Agree.{statusesIn, Stored};
 

@@ -1,9 +1,9 @@
 // What a session sends for a task's data: Data-In, and R2Ts that ask the initiator for data. No call has a requirement of its caller: they
 // refuse. They change nothing in the session; what is new of the task's record is in the answer.
 use refusal::Refusal;
-use response_fields::OwnFields;
 use response_header::Numbers;
 use response_header::judge::too_long;
+use response_layout::OwnFields;
 use session_state::Reached;
 use session_state::Session;
 use session_state::longest_of;
@@ -21,7 +21,7 @@ ghost use lib.ListN.{length};
 ghost use Rattle.response_header.specs.declared.Numbers.{Numbers};
 ghost use Rattle.response_header.specs.declared.Response.{Response};
 ghost use Rattle.response_header.specs.Response.{headerBytes};
-ghost use Rattle.response_fields.specs.WholeNumbers.{ownBytes};
+ghost use Rattle.response_layout.specs.WholeNumbers.{ownBytes};
 ghost use Rattle.task.specs.Agree.{recordOf, dataInStepOf, r2tStepOf, R2TStays};
 ghost use Rattle.window.specs.Agree.{Commands};
 ghost use Rattle.ledger.specs.Agree.{Statuses};
@@ -78,7 +78,7 @@ pub fn data_in(
                     sequence,
                 } => {
                     let w = s.window;
-                    let own = response_fields::data_in(header);
+                    let own = data_fields::data_in(header);
                     write_header(w, l.next, own, out);
                     DataInAnswer::Sent {
                         header: header,
@@ -123,7 +123,7 @@ pub fn r2t(
                 open_count,
             } => {
                 let w = s.window;
-                let asks = response_fields::r2t(header);
+                let asks = data_fields::r2t(header);
                 write_header(w, l.next, asks, out);
                 R2tAnswer::Sent {
                     header: header,

@@ -5,8 +5,8 @@ use native.Mathlib.Omega.{arith}
 use borrow.Author.Needs.{needs}
 use lib.ListN.{length, length-set}
 use lib.Seq.{length-paste}
-use Rattle.response_fields.specs.WholeNumbers.{ownBytes}
-use Rattle.response_fields.proofs.Laid.{length-own}
+use Rattle.response_layout.specs.WholeNumbers.{ownBytes}
+use Rattle.response_layout.proofs.Laid.{length-own}
 use Rattle.ledger.specs.Agree.{statusesIn, Puts}
 use Rattle.ledger.proofs.Laws.{stored-agrees, stored-others}
 use Rattle.ledger_keep.proofs.keep.Statement.{statement}

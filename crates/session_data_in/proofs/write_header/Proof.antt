@@ -3,8 +3,8 @@ use Prim.Native.Nat.{ℕ, _≤_}
 use mathlib.Core.Path.{_∙_}
 use borrow.Author.Needs.{needs}
 use Rattle.response_header.specs.declared.Numbers.{Numbers}
-use Rattle.response_fields.specs.WholeNumbers.{ownBytes}
-use Rattle.response_fields.proofs.Laid.{length-own, front}
+use Rattle.response_layout.specs.WholeNumbers.{ownBytes}
+use Rattle.response_layout.proofs.Laid.{length-own, front}
 use Rattle.ledger.proofs.Laws.{headed-size, headed-rest}
 use Rattle.book.specs.Book.{written}
 use Rattle.session_data_in.proofs.write_header.Statement.{statement}

@@ -1,8 +1,8 @@
-use Rattle.response_fields.specs.WholeNumbers.{ownBytes}
-use Rattle.response_fields.proofs.Laid.{r2t-laid}
+use Rattle.response_layout.specs.WholeNumbers.{ownBytes}
+use Rattle.response_layout.proofs.Laid.{r2t-laid}
 use borrow.Author.Needs.{needs}
-use Rattle.response_fields.proofs.r2t.Statement.{statement}
-use Rattle.response_fields.proofs.r2t.Tie as tie
+use Rattle.data_fields.proofs.r2t.Statement.{statement}
+use Rattle.data_fields.proofs.r2t.Tie as tie
 
 returns : tie.Need-returns
 unfolding ownBytes

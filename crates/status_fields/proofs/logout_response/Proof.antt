@@ -1,8 +1,8 @@
-use Rattle.response_fields.specs.WholeNumbers.{ownBytes}
-use Rattle.response_fields.proofs.Laid.{logout-response-laid}
+use Rattle.response_layout.specs.WholeNumbers.{ownBytes}
+use Rattle.response_layout.proofs.Laid.{logout-response-laid}
 use borrow.Author.Needs.{needs}
-use Rattle.response_fields.proofs.logout_response.Statement.{statement}
-use Rattle.response_fields.proofs.logout_response.Tie as tie
+use Rattle.status_fields.proofs.logout_response.Statement.{statement}
+use Rattle.status_fields.proofs.logout_response.Tie as tie
 
 returns : tie.Need-returns
 unfolding ownBytes

@@ -8,7 +8,7 @@ use lib.Seq.{sets, paste, take-all}
 use Rattle.field.specs.Field.{bytesOf}
 use Rattle.field.proofs.Laws.{length-bytes, sets-append, paste-sets}
 use Rattle.response_header.specs.Response.{kindFields, headerBytes, weigh}
-use Rattle.response_fields.specs.WholeNumbers.{statSN, ownBytes}
+use Rattle.response_layout.specs.WholeNumbers.{statSN, ownBytes}
 use Rattle.response_header.specs.declared.NopIn.{NopIn}
 use Rattle.response_header.specs.declared.ScsiResponse.{ScsiResponse}
 use Rattle.response_header.specs.declared.TaskManagementResponse.{TaskManagementResponse}
@@ -18,7 +18,7 @@ use Rattle.response_header.specs.declared.LogoutResponse.{LogoutResponse}
 use Rattle.response_header.specs.declared.R2t.{R2t}
 use Rattle.response_header.specs.declared.Reject.{Reject}
 use Rattle.response_header.specs.declared.Numbers.{Numbers}
-use Rattle.response_fields.specs.declared.OwnFields.{OwnFields}
+use Rattle.response_layout.specs.declared.OwnFields.{OwnFields}
 use Rattle.response_header.specs.declared.Response.the-variants as R
 
 -- four single bytes

@@ -4,7 +4,7 @@ use Prim.Native.Nat.{ℕ}
 use mathlib.Core.List.{List, _++_}
 use Rattle.field.specs.Field.{bytesOf, pick}
 use Rattle.response_header.specs.declared.Numbers.{Numbers}
-use Rattle.response_fields.specs.declared.OwnFields.{OwnFields}
+use Rattle.response_layout.specs.declared.OwnFields.{OwnFields}
 
 -- the StatSN that stands in the header: 0 in Data-In
 abbrev pub statSN : OwnFields → Numbers → ℕ
