@@ -70,7 +70,7 @@ pub fn data_in(
             if too_long(length as u64, longest_of(s, conn)) {
                 return DataInAnswer::Refused(Refusal::TooLong);
             }
-            match task::data_in(t, is_final, acknowledge, length) {
+            match task_data_in::data_in(t, is_final, acknowledge, length) {
                 DataInAnswer::Refused(f) => DataInAnswer::Refused(f),
                 DataInAnswer::Sent {
                     header,

@@ -1,13 +1,13 @@
--- `task::data_in` meets its contract.
+-- `task_data_in::data_in` meets its contract.
 use mathlib.Core.Path.{sym, _∙_}
 use mathlib.Core.List.{[]}
 use mathlib.Core.Bool.{or-true}
 use native.Mathlib.Omega.{arith}
 use borrow.Author.Needs.{needs}
 use Rattle.task_book.specs.Steps.{dataInStep, afterDataIn, numbered}
 use Rattle.task.proofs.Laws.{data-in-good}
-use Rattle.task.proofs.data_in.Statement.{statement}
-use Rattle.task.proofs.data_in.Tie as tie
+use Rattle.task_data_in.proofs.data_in.Statement.{statement}
+use Rattle.task_data_in.proofs.data_in.Tie as tie
 
 data-in-header-requires : tie.Need-data-in-header-requires
 data-in-header-requires c κs = data-in-good _ _ _ (sym (c .before .data-in-ok .ensures [] []) ∙ c .if1 .taken) .offset

@@ -1,11 +1,11 @@
--- `task::data_in_ok` meets its contract: the offset is compared with what 2^32 less the length leaves, so that no sum wraps.
+-- `task_data_in::data_in_ok` meets its contract: the offset is compared with what 2^32 less the length leaves, so that no sum wraps.
 use Prim.Native.Nat.{_^_, _≤_}
 use native.Mathlib.Omega.{arith}
 use borrow.Author.Needs.{needs}
 use Rattle.task_book.specs.Steps.{dataInOk}
 use Rattle.task.proofs.Laws.{room}
-use Rattle.task.proofs.data_in_ok.Statement.{statement}
-use Rattle.task.proofs.data_in_ok.Tie as tie
+use Rattle.task_data_in.proofs.data_in_ok.Statement.{statement}
+use Rattle.task_data_in.proofs.data_in_ok.Tie as tie
 
 returns : tie.Need-returns
 unfolding dataInOk

@@ -1,8 +1,8 @@
--- `task::data_in_header` meets its contract.
+-- `task_data_in::data_in_header` meets its contract.
 use borrow.Author.Needs.{needs}
 use Rattle.task_book.specs.Steps.{dataInHeader}
-use Rattle.task.proofs.data_in_header.Statement.{statement}
-use Rattle.task.proofs.data_in_header.Tie as tie
+use Rattle.task_data_in.proofs.data_in_header.Statement.{statement}
+use Rattle.task_data_in.proofs.data_in_header.Tie as tie
 
 returns : tie.Need-returns
 unfolding dataInHeader
