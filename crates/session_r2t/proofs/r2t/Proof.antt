@@ -1,4 +1,4 @@
--- `session_data_in::r2t` meets its contract: the outcomes of the guards, and of the step on the task's record, of which a refusal leaves the arrays.
+-- `session_r2t::r2t` meets its contract: the outcomes of the guards, and of the step on the task's record, of which a refusal leaves the arrays.
 use Prim.Native.Nat.{_≤_}
 use mathlib.Core.Path.{refl, _∙_}
 use borrow.Author.Needs.{needs}
@@ -7,9 +7,9 @@ use Rattle.book.specs.Book.{outputs}
 use Rattle.session_state.specs.Agree.{state}
 use Rattle.session_state.proofs.Steps.{refusing, lend-short, lend-long, reach-none, reach-closed, open-at, reach-open}
 use Rattle.session_state.proofs.Transfers.{as-written}
-use Rattle.session_data_in.proofs.Outcomes.{r2t-eq, r2t-refused, r2t-sent}
-use Rattle.session_data_in.proofs.r2t.Statement.{statement}
-use Rattle.session_data_in.proofs.r2t.Tie as tie
+use Rattle.session_r2t.proofs.Outcomes.{r2t-eq, r2t-refused, r2t-sent}
+use Rattle.session_r2t.proofs.r2t.Statement.{statement}
+use Rattle.session_r2t.proofs.r2t.Tie as tie
 
 returns : tie.Need-returns
 returns c =

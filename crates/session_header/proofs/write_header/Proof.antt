@@ -1,4 +1,4 @@
--- `session_data_in::write_header` meets its contract: the header's six stores, with the numbers of now.
+-- `session_header::write_header` meets its contract: the header's six stores, with the numbers of now.
 use Prim.Native.Nat.{ℕ, _≤_}
 use mathlib.Core.Path.{_∙_}
 use borrow.Author.Needs.{needs}
@@ -7,8 +7,8 @@ use Rattle.response_layout.specs.WholeNumbers.{ownBytes}
 use Rattle.response_layout.proofs.Laid.{length-own, front}
 use Rattle.ledger.proofs.Laws.{headed-size, headed-rest}
 use Rattle.book.specs.Book.{written}
-use Rattle.session_data_in.proofs.write_header.Statement.{statement}
-use Rattle.session_data_in.proofs.write_header.Tie as tie
+use Rattle.session_header.proofs.write_header.Statement.{statement}
+use Rattle.session_header.proofs.write_header.Tie as tie
 
 returns : tie.Need-returns
 unfolding written
