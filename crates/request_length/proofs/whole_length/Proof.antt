@@ -1,9 +1,9 @@
--- `request_refusal::whole_length` meets its contract: each return is the definition's, by the tests passed on the way.
+-- `request_length::whole_length` meets its contract: each return is the definition's, by the tests passed on the way.
 use borrow.Author.Needs.{needs}
 use borrow.Author.Tests.{lt-ltb, le-ltb}
 use Rattle.request_header.specs.Request.{statedLength, lengthAsked}
-use Rattle.request_refusal.proofs.whole_length.Statement.{statement}
-use Rattle.request_refusal.proofs.whole_length.Tie as tie
+use Rattle.request_length.proofs.whole_length.Statement.{statement}
+use Rattle.request_length.proofs.whole_length.Tie as tie
 
 returns : tie.Need-returns
 unfolding lengthAsked

@@ -1,10 +1,10 @@
--- `request_refusal::fields_ok` meets its contract: each arm is its kind's rules, and the last is SNACK, the one opcode left.
+-- `request_verdict::fields_ok` meets its contract: each arm is its kind's rules, and the last is SNACK, the one opcode left.
 use mathlib.Core.Path.{_≡_}
 use native.Mathlib.Omega.{arith}
 use borrow.Author.Needs.{needs}
 use Rattle.request_header.proofs.FieldRules.{known-last}
-use Rattle.request_refusal.proofs.fields_ok.Statement.{statement}
-use Rattle.request_refusal.proofs.fields_ok.Tie as tie
+use Rattle.request_verdict.proofs.fields_ok.Statement.{statement}
+use Rattle.request_verdict.proofs.fields_ok.Tie as tie
 
 returns : tie.Need-returns
 returns c = rw (c .before .match .keys1) (c .nop-out-ok .ensures _)

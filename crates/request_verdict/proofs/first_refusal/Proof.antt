@@ -1,7 +1,7 @@
 use borrow.Author.Needs.{needs}
 use Rattle.request_header.proofs.FieldRules.{first-before-field, first-by-fields, long-past, known-past}
-use Rattle.request_refusal.proofs.first_refusal.Statement.{statement}
-use Rattle.request_refusal.proofs.first_refusal.Tie as tie
+use Rattle.request_verdict.proofs.first_refusal.Statement.{statement}
+use Rattle.request_verdict.proofs.first_refusal.Tie as tie
 
 returns : tie.Need-returns
 returns c = first-before-field _ _ (c .before .refusal-before-field .ensures) (c .if1 .taken)
