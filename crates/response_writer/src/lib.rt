@@ -3,18 +3,18 @@ use field::HEADER_BYTES;
 use field::pair;
 use field::put;
 use refusal::Refusal;
-use response_fields::OwnFields;
 use response_fields::own_fields;
 use response_header::Judgement;
 use response_header::Numbers;
 use response_header::Response;
 use response_header::judge::judge;
+use response_layout::OwnFields;
 ghost use mathlib.Core.Path.{_≡_};
 ghost use Prim.Native.Nat.{_+_, _≤_};
 ghost use lib.ListN.{length};
 ghost use lib.Seq.{paste};
 ghost use Rattle.field.specs.Field.{pick};
-ghost use Rattle.response_fields.specs.WholeNumbers.{ownBytes};
+ghost use Rattle.response_layout.specs.WholeNumbers.{ownBytes};
 ghost use Rattle.response_writer.specs.Writing.{Outcome, answered, writing};
 
 pub enum WriteAnswer {

@@ -52,8 +52,8 @@ use Rattle.session_statuses.proofs.resend.Reads as resend-r
 use Rattle.session_statuses.proofs.resend.Kinds as resend-k
 use Rattle.session_data_in.proofs.data_in.Reads as data-in-r
 use Rattle.session_data_in.proofs.data_in.Kinds as data-in-k
-use Rattle.session_data_in.proofs.r2t.Reads as r2t-r
-use Rattle.session_data_in.proofs.r2t.Kinds as r2t-k
+use Rattle.session_r2t.proofs.r2t.Reads as r2t-r
+use Rattle.session_r2t.proofs.r2t.Kinds as r2t-k
 use Rattle.session_data_out.proofs.data_out.Reads as data-out-r
 use Rattle.session_data_out.proofs.data_out.Kinds as data-out-k
 use Rattle.session_data_snack.proofs.data_snack.Reads as data-snack-r

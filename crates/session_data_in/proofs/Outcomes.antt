@@ -1,24 +1,16 @@
--- The book's step at a Data-In and at an R2T, by its outcome.
+-- The book's step at a Data-In, by its outcome.
 use Prim.Native.Nat.{ℕ}
 use mathlib.Core.Path.{_≡_, refl}
 use mathlib.Core.Bool.{Bool, true, false}
 use Rattle.field.specs.Field.{pick}
-use Rattle.response_header.specs.Response.{maxData, tooLong, headerBytes}
-use Rattle.response_header.specs.declared.Response.{Response}
+use Rattle.response_header.specs.Response.{maxData, tooLong}
 use Rattle.response_header.specs.declared.Response.the-variants as R
 use Rattle.response_header.specs.declared.DataIn.{DataIn}
-use Rattle.response_header.specs.declared.R2t.{R2t}
 use Rattle.task_book.specs.Record.{Record}
 use Rattle.task_book.specs.Steps as T
-use Rattle.window.specs.Book as W
-use Rattle.book.specs.Book.{OpenConnection, Book, Outputs, dataIn, r2t, transfer, Choice, refused, moved, step, refuse}
-use Rattle.book.specs.Book.{onConnection, lending, written, movedBy, transferBy, bookStep}
-
--- what is written on an open connection, by the code's next StatSN and the window's numbers
-abbrev pub headerNow : Book → (statSN : ℕ) → Response → Outputs → Outputs
-headerNow b n r o = written (headerBytes r (record { «stat_sn» = n; «exp_cmd_sn» = W.expCmdSN (b .window); «max_cmd_sn» = W.maxCmdSN (b .window) })) o
-
--- ---- Data-In
+use Rattle.book.specs.Book.{OpenConnection, Book, Outputs, dataIn, transfer, Choice, refused, moved, step, refuse}
+use Rattle.book.specs.Book.{onConnection, lending, movedBy, transferBy, bookStep}
+use Rattle.session_header.proofs.HeaderNow.{headerNow}
 
 pub data-in-eq : (b : Book) (c : ℕ) (x : Record) (f a : Bool) (n : ℕ) (o : Outputs) (z : Choice)
     → bookStep b (transfer c x (dataIn f a n o)) z
@@ -41,21 +33,3 @@ module _ (b : Book) (o : Outputs) (k : OpenConnection) (n : ℕ) (limit : k .lon
         → pick (tooLong (k .longest) n) (refuse 5 o b) (movedBy b o k y) ≡ step (moved (T.dataIn h) x) o' b
     unfolding movedBy
     data-in-sent y x h i o' e q w = rw (limit, short, ← e, w, q)
-
--- ---- R2T
-
-pub r2t-eq : (b : Book) (c : ℕ) (x : Record) (t n : ℕ) (o : Outputs) (z : Choice)
-    → bookStep b (transfer c x (r2t t n o)) z ≡ lending b o (onConnection b c o (λ k. movedBy b o k (T.r2tStep x t n)))
-unfolding bookStep transferBy
-r2t-eq b c x t n o z = refl
-
-module _ (b : Book) (o : Outputs) (k : OpenConnection) where
-  pub r2t-refused : (y : T.Step) (x : Record) (m : ℕ) → T.refuse m x ≡ y → movedBy b o k y ≡ step (refused m) o b
-  unfolding movedBy
-  r2t-refused y x m e = rw (← e)
-
-  pub r2t-sent : (y : T.Step) (x : Record) (h : R2t) (i : ℕ) (o' : Outputs) → T.step (T.r2t h) x ≡ y → i ≡ k .ledger .next
-      → o' ≡ headerNow b i (R.R2t h) o
-      → movedBy b o k y ≡ step (moved (T.r2t h) x) o' b
-  unfolding movedBy
-  r2t-sent y x h i o' e q w = rw (← e, w, q)

@@ -126,5 +126,5 @@ pub fn whole_length(bytes: &[u8]) -> LengthAnswer
     ensures { λ r. ⌜ ((t : State)
         → Did (Call.ask (Question.wholeLength (now (bytes .entry)))) t (lengthReply (lengthAnswerOf r)) noOutputs t) ⌝ }
 {
-    request_refusal::whole_length(bytes, LIMITS)
+    request_length::whole_length(bytes, LIMITS)
 }

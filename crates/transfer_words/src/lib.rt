@@ -106,7 +106,7 @@ pub fn r2t(
 {
     let s = load(n, m);
     let t = task_words::load(task, wide);
-    match session_data_in::r2t(s, conn, t, tag, length, tags, ends, out) {
+    match session_r2t::r2t(s, conn, t, tag, length, tags, ends, out) {
         R2tAnswer::Refused(f) => answer_words::pack_refused(f),
         R2tAnswer::Sent {
             header: _,

@@ -9,9 +9,9 @@ use Rattle.ledger.specs.Book.{isStatus}
 use Rattle.ledger.specs.Agree.{statusesIn}
 use Rattle.ledger.proofs.Laws.{sending-refused, sending-undue, sending-unstored, sending-full, sending-stored, sends-refused, sends-unstored, sends-stored}
 use Rattle.response_header.specs.Response.{judgementNumber}
-use Rattle.response_fields.specs.WholeNumbers.{ownBytes}
+use Rattle.response_layout.specs.WholeNumbers.{ownBytes}
 use Rattle.response_header.specs.declared.Numbers.{Numbers}
-use Rattle.response_fields.proofs.Laid.{length-own, front}
+use Rattle.response_layout.proofs.Laid.{length-own, front}
 use Rattle.response_header.specs.declared.Judgement.{Judgement}
 use Rattle.response_header.specs.declared.Judgement.the-variants as J
 use Rattle.refusal.specs.declared.Refusal.the-variants as F

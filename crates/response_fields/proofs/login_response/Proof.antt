@@ -1,5 +1,5 @@
-use Rattle.response_fields.specs.WholeNumbers.{ownBytes}
-use Rattle.response_fields.proofs.Laid.{login-response-laid}
+use Rattle.response_layout.specs.WholeNumbers.{ownBytes}
+use Rattle.response_layout.proofs.Laid.{login-response-laid}
 use Prim.Native.Nat.{_+_, _*_}
 use Rattle.response_header.specs.Response.{weigh}
 use Rattle.field.proofs.Laws.{bytes-cut}

@@ -1,5 +1,5 @@
-use Rattle.response_fields.specs.WholeNumbers.{ownBytes}
-use Rattle.response_fields.proofs.Laid.{nop-in-laid}
+use Rattle.response_layout.specs.WholeNumbers.{ownBytes}
+use Rattle.response_layout.proofs.Laid.{nop-in-laid}
 use borrow.Author.Needs.{needs}
 use Rattle.response_fields.proofs.nop_in.Statement.{statement}
 use Rattle.response_fields.proofs.nop_in.Tie as tie

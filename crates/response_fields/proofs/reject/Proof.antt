@@ -1,5 +1,5 @@
-use Rattle.response_fields.specs.WholeNumbers.{ownBytes}
-use Rattle.response_fields.proofs.Laid.{reject-laid}
+use Rattle.response_layout.specs.WholeNumbers.{ownBytes}
+use Rattle.response_layout.proofs.Laid.{reject-laid}
 use borrow.Author.Needs.{needs}
 use Rattle.response_fields.proofs.reject.Statement.{statement}
 use Rattle.response_fields.proofs.reject.Tie as tie

@@ -1,4 +1,4 @@
-use Rattle.response_fields.proofs.Laid.{placed}
+use Rattle.response_layout.proofs.Laid.{placed}
 use borrow.Author.Needs.{needs}
 use Rattle.response_writer.proofs.place.Statement.{statement}
 use Rattle.response_writer.proofs.place.Tie as tie

@@ -5,8 +5,8 @@ use borrow.Author.Tests.{lt-ltb, le-ltb}
 use lib.ListN.{drop}
 use Rattle.refusal.proofs.Laws.{number-positive}
 use Rattle.response_writer.specs.Writing.{writing}
-use Rattle.response_fields.specs.WholeNumbers.{ownBytes}
-use Rattle.response_fields.proofs.Laid.{length-own, front}
+use Rattle.response_layout.specs.WholeNumbers.{ownBytes}
+use Rattle.response_layout.proofs.Laid.{length-own, front}
 use borrow.Author.Needs.{needs}
 use Rattle.response_writer.proofs.write.Statement.{statement}
 use Rattle.response_writer.proofs.write.Tie as tie
