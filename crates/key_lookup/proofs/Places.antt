@@ -1,6 +1,6 @@
 -- The table: the first candidate of a known name stands in the place of its length and letter.
 use mathlib.Core.Path.{_≡_, refl, sym, ap, ap₂, _∙_, subst}
-use mathlib.Core.Bool.{Bool, true, false, _||_}
+use mathlib.Core.Bool.{Bool, true}
 use mathlib.Core.List.{List, [], _∷_}
 use Prim.Native.Nat.{ℕ, _+_, _*_, _%_, _<_, _≤_}
 use native.Mathlib.Omega.{arith}
@@ -10,7 +10,7 @@ use borrow.Author.Tests.{leb-true, eqb-true, eq-eqb}
 use Rattle.text.specs.Text.{has}
 use Rattle.text.proofs.Laws.{below, at, false-true}
 use Rattle.key_table.specs.Table.{known, nameAt}
-use Rattle.key_names.specs.Candidates.{shares, candidates, candidatesOf, Lawful}
+use Rattle.key_names.specs.Candidates.{shares, candidates, candidatesOf}
 use Rattle.key_names.specs.Spelling.{spelt}
 use Rattle.key_names.specs.declared.KnownName.{KnownName}
 use Rattle.key_names.proofs.Laws.{lawful, below-known, shared}

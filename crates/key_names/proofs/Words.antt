@@ -1,5 +1,5 @@
 -- Names compared as numbers: the same three words of eight bytes make the same name.
-use mathlib.Core.Path.{_≡_, refl, sym, ap, _∙_, subst}
+use mathlib.Core.Path.{_≡_, refl, sym, ap, subst}
 use mathlib.Core.Bool.{Bool, true, false, _&&_}
 use mathlib.Core.List.{List, [], _∷_}
 use Prim.Native.Nat.{ℕ, zero, suc, _+_, _*_, _-_, _<_, _≤_}
@@ -8,16 +8,16 @@ use native.Mathlib.Nat.{not-suc-le-zero, add-assoc}
 use lib.ListN.{length, getD}
 use lib.Seq.{ext-getD}
 use lib.Dec.{ltb, leb, eqb}
-use borrow.Author.Tests.{leb-true, ltb-true, ltb-false, lt-ltb, le-ltb, eqb-true, eqb-false, eq-eqb}
+use borrow.Author.Tests.{leb-true, ltb-true, ltb-false, le-ltb, eqb-true, eqb-false, eq-eqb}
 use Rattle.field.specs.Field.{beAt}
 use Rattle.text.specs.Text.{same, has, all, pick}
-use Rattle.text.proofs.Laws.{below, at, same-eq, &&-left, &&-right, false-true}
+use Rattle.text.proofs.Laws.{below, at, same-eq, &&-left, &&-right}
 use Rattle.key_table.specs.Table.{known, nameAt}
 use Rattle.key_table.proofs.Tables.{same-refl}
-use Rattle.key_names.specs.Candidates.{candidatesOf, Lawful}
+use Rattle.key_names.specs.Candidates.{candidatesOf}
 use Rattle.key_names.specs.Spelling.{middleAt, spelt}
 use Rattle.key_names.specs.declared.KnownName.{KnownName}
-use Rattle.key_names.proofs.Laws.{lawful}
+use Rattle.key_names.proofs.Laws.{lawful, below-known}
 
 -- A number of eight bytes is that of its halves.
 pub halves : (s : List ℕ) (start : ℕ) → beAt s start 8 ≡ beAt s start 4 * 0x100000000 + beAt s (start + 4) 4
@@ -108,15 +108,11 @@ module _ (n : List ℕ) (k : ℕ) (c : has k (candidatesOf n) ≡ true) where
   unfolding candidatesOf
   shares-length = lawful (length n) (getD n 0 0) .only k c .1
 
-  pub candidate-key : k < 28
-  unfolding candidatesOf
-  candidate-key = lawful (length n) (getD n 0 0) .only k c .0
-
   pub name-least : 8 ≤ length n
-  name-least = omega (arith, known-least k candidate-key, shares-length)
+  name-least = omega (arith, known-least k (below-known n k c), shares-length)
 
   pub name-most : length n ≤ 24
-  name-most = omega (arith, known-most k candidate-key, shares-length)
+  name-most = omega (arith, known-most k (below-known n k c), shares-length)
 
   middle-go : (b : Bool) → ltb (length n) 16 ≡ b → pick b (length n - 8) 8 + 8 ≤ length n
   middle-go true e = omega (arith, name-least)
@@ -137,7 +133,7 @@ module _ (n : List ℕ) (k : ℕ) (c : has k (candidatesOf n) ≡ true) where
       let y : beAt n m 8 ≡ beAt (nameAt k) (middleAt (length (nameAt k))) 8 = eqb-true _ _ (&&-right (eqb (beAt n 0 8) (beAt (nameAt k) 0 8)) _ hm) in
       let z : beAt n (length n - 8) 8 ≡ beAt (nameAt k) (length (nameAt k) - 8) 8 =
       eqb-true _ _ (&&-right (eqb (beAt n 0 8) (spelt k .head) && eqb (beAt n m 8) (spelt k .middle)) _ w) in
-      let u = same-words n (nameAt k) p (known-bytes k candidate-key) (sym l) name-least name-most x (rw (e, l) at y) (rw l at z) in
+      let u = same-words n (nameAt k) p (known-bytes k (below-known n k c)) (sym l) name-least name-most x (rw (e, l) at y) (rw l at z) in
       subst (λ (t : List ℕ). same n t ≡ true) u (same-refl n)
 
   of-words : (m : ℕ) → m ≡ middleAt (length n) → same n (nameAt k) ≡ true

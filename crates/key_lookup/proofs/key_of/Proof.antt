@@ -3,8 +3,7 @@ use Rattle.key_lookup.proofs.Turns.{NoneOf, none-yet, at-two, one-more,
 use Rattle.key_names.proofs.Laws.{hit, below-known}
 use Rattle.text.specs.Text.{same}
 use Rattle.key_table.specs.Table.{nameAt}
-use mathlib.Core.Path.{_≡_, sym, ap, _∙_}
-use mathlib.Core.Bool.{Bool, false}
+use mathlib.Core.Path.{sym, ap, _∙_}
 use Prim.Native.Nat.{ℕ, _≤_, _-_}
 use native.Mathlib.Omega.{arith}
 use denote.Ref.{now}

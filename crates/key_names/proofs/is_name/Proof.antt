@@ -1,12 +1,13 @@
 -- A name with a candidate has 8 to 24 bytes, and three words say whether it is the candidate's.
-use Rattle.key_names.proofs.Words.{candidate-key, name-least, middle-in, whole}
+use Rattle.key_names.proofs.Words.{name-least, middle-in, whole}
+use Rattle.key_names.proofs.Laws.{below-known}
 use native.Mathlib.Omega.{arith}
 use denote.Ref.{now}
 use Rattle.key_names.proofs.is_name.Statement.{statement}
 use Rattle.key_names.proofs.is_name.Tie as tie
 
 name-of-requires : tie.Need-name-of-requires
-name-of-requires c κs = let s = c .before in candidate-key (now (s .args .name)) (s .args .k) (s .pre)
+name-of-requires c κs = let s = c .before in below-known (now (s .args .name)) (s .args .k) (s .pre)
 
 middle-at-requires : tie.Need-middle-at-requires
 middle-at-requires c κs = let s = c .before .before in name-least (now (s .args .name)) (s .args .k) (s .pre)

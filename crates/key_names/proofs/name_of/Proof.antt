@@ -3,18 +3,18 @@ use Rattle.key_table.specs.Table.{known, nameAt}
 use Rattle.field.specs.Field.{beAt}
 use Rattle.key_names.specs.Candidates.{shares, candidates, candidatesOf}
 use Rattle.key_names.specs.Spelling.{middleAt, spelt}
-use mathlib.Core.Path.{_≡_, sym}
+use mathlib.Core.Path.{_≡_}
 use Prim.Native.Nat.{ℕ, zero, suc, _≤_}
 use native.Mathlib.Omega.{arith}
 use Rattle.key_names.proofs.name_of.Statement.{statement}
 use Rattle.key_names.proofs.name_of.Tie as tie
 
--- none of the first m
-abbrev NoneOf : Type 0 → ℕ → ℕ → Type 0
-NoneOf B k zero = B
-NoneOf B k (suc m) = NoneOf B k m × (k ≡ m → ⊥)
+-- k differs from each of the first m numbers
+abbrev Differs : Type 0 → ℕ → ℕ → Type 0
+Differs B k zero = B
+Differs B k (suc m) = Differs B k m × (k ≡ m → ⊥)
 
-beyond : (B : Type 0) (k m : ℕ) → NoneOf B k m → m ≤ k
+beyond : (B : Type 0) (k m : ℕ) → Differs B k m → m ≤ k
 beyond B k zero h = omega arith
 beyond B k (suc m) h = let a = beyond B k m (h .0) in let b : k ≡ m → ⊥ = h .1 in omega (arith, a, b)
 

@@ -1,6 +1,6 @@
 -- Two halves of four bytes.
 use Rattle.key_names.proofs.Words.{halves}
-use mathlib.Core.Path.{sym, _∙_}
+use mathlib.Core.Path.{sym}
 use borrow.Author.Needs.{needs}
 use denote.Ref.{now}
 use Rattle.key_names.proofs.word.Statement.{statement}
