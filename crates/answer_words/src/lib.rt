@@ -1,4 +1,6 @@
 // A session's answers as four words, and as one number where there is one value at most: the numbers of all, what they share, and the data calls'.
+#![tactic(auto)]
+
 ghost use Rattle.std.specs.Prelude.{◌≡◌, [], ◌∷◌};
 ghost use Rattle.book.specs.Book.{Answer};
 ghost use Rattle.refusal.specs.Refusal.{number};

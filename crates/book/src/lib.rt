@@ -1,15 +1,16 @@
 // The book of a session, and demand 3 of what it answers. There is no function here: what a session and a connection are given at
 // their opening, definitions (specs/) and laws (proofs/).
+#![tactic(auto)]
 
 // What a connection is given at its opening.
-#[derive(Drop)]
+#[derive(Clone, Copy)]
 pub struct Opening {
     // Its first StatSN.
     pub stat_sn: u32,
 }
 
 // What a fresh session is given.
-#[derive(Drop)]
+#[derive(Clone, Copy)]
 pub struct Given {
     // Its first command number.
     pub first: u32,

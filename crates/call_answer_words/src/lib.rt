@@ -1,4 +1,6 @@
 // The answers of the calls that change a session, as words.
+#![tactic(auto)]
+
 ghost use Rattle.std.specs.Prelude.{◌≡◌};
 ghost use Rattle.book.specs.Book.{Answer, from_window};
 ghost use Rattle.session_statuses.specs.Answer.{resend_answer};

@@ -1,4 +1,6 @@
 // Offer and take on words: a session as its numbers and maps, and the arrays of the window's headers and tickets.
+#![tactic(auto)]
+
 ghost use Rattle.window.specs.Agree.{commands};
 ghost use Rattle.ledger.specs.Agree.{Statuses};
 ghost use Rattle.book.specs.Book.{Call, outputs, no_outputs};

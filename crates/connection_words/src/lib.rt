@@ -1,4 +1,6 @@
 // The calls that open and close connections, on words: a session as its numbers and maps.
+#![tactic(auto)]
+
 ghost use Rattle.window.specs.Agree.{Commands};
 ghost use Rattle.ledger.specs.Agree.{Statuses};
 ghost use Rattle.book.specs.Book.{Call, no_outputs};

@@ -1,4 +1,6 @@
 // The own fields of Data-Ins and R2Ts as whole numbers.
+#![tactic(auto)]
+
 ghost use Rattle.std.specs.Prelude.{◌≡◌};
 ghost use Rattle.response_header.specs.declared.Numbers.{Numbers};
 ghost use Rattle.response_header.specs.declared.Response.TheVariants as R;

@@ -1,4 +1,6 @@
 // Data-Ins, R2Ts, NOP-Ins and Rejects made of words.
+#![tactic(auto)]
+
 ghost use Rattle.std.specs.Prelude.{◌≡◌};
 ghost use Rattle.response_words.specs.ResponseWords.{nop_in_of, data_in_of, r2t_of, reject_of};
 

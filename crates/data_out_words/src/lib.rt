@@ -1,5 +1,7 @@
 // The call that takes a Data-Out, on words: a session as its numbers and maps, which stay, and a task's record as its numbers and the arrays of its
 // open R2Ts.
+#![tactic(auto)]
+
 ghost use Rattle.window.specs.Agree.{Commands};
 ghost use Rattle.ledger.specs.Agree.{Statuses};
 ghost use Rattle.book.specs.Book.{Transfer, no_outputs};

@@ -1,4 +1,6 @@
 // The call that takes a SNACK for data, on words: a session as its numbers and maps, which stay, and a task's record as its numbers.
+#![tactic(auto)]
+
 ghost use Rattle.std.specs.Prelude.{List, ℕ};
 ghost use Rattle.window.specs.Agree.{Commands};
 ghost use Rattle.ledger.specs.Agree.{Statuses};

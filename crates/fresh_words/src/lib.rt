@@ -1,4 +1,6 @@
 // A fresh session on words: its numbers and maps, and its arrays.
+#![tactic(auto)]
+
 ghost use Rattle.window.specs.Agree.{commands};
 ghost use Rattle.ledger.specs.Agree.{statuses_in};
 ghost use Rattle.call_words.specs.Given.{given_of};

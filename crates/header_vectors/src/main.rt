@@ -1,5 +1,7 @@
 // Runs header vectors: each line of standard input is a PDU in hex, as many bytes 0x61 after it as the number that follows a
 // plus sign says, or a comment, which is copied. Then responses at each rule's boundary are written.
+#![tactic(auto)]
+
 mod hex;
 mod responses;
 mod show;

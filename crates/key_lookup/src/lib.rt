@@ -1,4 +1,6 @@
 // The key of a name: its length and first letter choose the known names that share both, and it is compared whole with these alone.
+#![tactic(auto)]
+
 ghost use Rattle.std.specs.Prelude.{◌≡◌, [], ◌∷◌, ◌≤◌, get_or};
 ghost use Rattle.key_table.specs.Table.{key_of};
 ghost use Rattle.key_names.specs.Candidates.{candidates_of};

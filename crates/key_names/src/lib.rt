@@ -1,4 +1,6 @@
 // The names of the known keys as numbers, and the whole comparison of a name with one of them.
+#![tactic(auto)]
+
 ghost use Rattle.std.specs.Prelude.{◌≡◌, true, ◌+◌, ◌≤◌, ◌<◌, length};
 ghost use Rattle.field.specs.Field.{be_at};
 ghost use Rattle.text.specs.Text.{same, has};
@@ -11,7 +13,7 @@ use key_table::table::KNOWN;
 
 // A known name: its length and first letter, the second of its candidates (KNOWN where it is the only one), and its bytes, of which
 // the first eight, eight in the middle and the last eight are numbers.
-#[derive(Drop)]
+#[derive(Clone, Copy)]
 pub struct KnownName {
     pub length: usize,
     pub letter: u8,

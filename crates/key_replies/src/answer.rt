@@ -9,7 +9,7 @@ use text::slice::append;
 use text_number::number::put_decimal;
 
 // A reply with its zero byte: a word, by where it starts and ends among the words, or after no word a number in decimal. No answer ends at 0.
-#[derive(Drop)]
+#[derive(Clone, Copy)]
 pub struct Said(usize, usize, u32);
 
 fn said_of(r: Reply) -> Said

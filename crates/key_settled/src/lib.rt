@@ -1,4 +1,6 @@
 // What a judged pair of a block leaves settled: which keys came, and the values in force.
+#![tactic(auto)]
+
 ghost use Rattle.std.specs.Prelude.{◌≡◌, true, ◌≤◌, ◌<◌, set};
 ghost use Rattle.keys.specs.Promises.{settled_of, after};
 

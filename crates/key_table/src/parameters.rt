@@ -5,7 +5,7 @@ ghost use Rattle.key_table.specs.Table.{standards, own, none_seen};
 // The place of the one key of the table that is declared.
 pub const MAX_RECV_DATA_SEGMENT_LENGTH: usize = 6;
 
-#[derive(Drop)]
+#[derive(Clone, Copy)]
 pub struct Parameters {
     pub values: [u32; 12],
 }
@@ -32,7 +32,7 @@ impl Parameters {
 }
 
 // What a login has settled: which known keys came, and the parameters in force.
-#[derive(Drop)]
+#[derive(Clone, Copy)]
 pub struct Settled {
     pub seen: [bool; 28],
     pub parameters: Parameters,

@@ -5,7 +5,7 @@ ghost use Rattle.key_table.specs.Table.{kind_at, row_at};
 use crate::parameters::Parameters;
 
 // What a known key is, in the order of the rules that judge it.
-#[derive(Drop)]
+#[derive(Clone, Copy)]
 pub enum Kind {
     // A key of the table, negotiated.
     Negotiated,
@@ -25,7 +25,7 @@ pub enum Kind {
 }
 
 // How the offer and our own value settle a key of the table.
-#[derive(Drop)]
+#[derive(Clone, Copy)]
 pub enum Rule {
     Least,
     Greatest,
@@ -35,7 +35,7 @@ pub enum Rule {
 }
 
 // A key of the table; a boolean's values are Yes 1 and No 0.
-#[derive(Drop)]
+#[derive(Clone, Copy)]
 pub struct Row {
     pub rule: Rule,
     pub low: u32,

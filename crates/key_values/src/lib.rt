@@ -1,2 +1,4 @@
 // The value of a key of the table.
+#![tactic(auto)]
+
 pub mod value;

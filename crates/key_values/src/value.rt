@@ -10,7 +10,7 @@ use text::slice::same_bytes;
 use text_number::number::{Number, number_of};
 
 // What a pair is answered.
-#[derive(Drop)]
+#[derive(Clone, Copy)]
 pub enum Reply {
     // Nothing: a good declaration.
     Silent,
@@ -24,7 +24,7 @@ pub enum Reply {
 }
 
 // A judged pair.
-#[derive(Drop)]
+#[derive(Clone, Copy)]
 pub enum Judgement {
     // This status refuses the login.
     Refused(u16),
@@ -35,7 +35,7 @@ pub enum Judgement {
 }
 
 // An offered value of a key of the table.
-#[derive(Drop)]
+#[derive(Clone, Copy)]
 pub enum Offer {
     Good(u32),
     Bad,

@@ -2,6 +2,8 @@
 // is a small struct by value and two arrays that the caller lends, which the four connections share: connection c has
 // the slots from 32 * c on, and a status lies in the slot of its number modulo 32. The calls stand above: `ledger_send`;
 // `ledger_held` and `ledger_resend` for what is held.
+#![tactic(auto)]
+
 ghost use Rattle.ledger.specs.Agree.{Opened};
 
 use refusal::Refusal;
@@ -17,7 +19,7 @@ pub const LEDGER_SLOTS: usize = 128;
 pub const LEDGER_BYTES: usize = 6144;
 
 // The ledger of an open connection.
-#[derive(Drop)]
+#[derive(Clone, Copy)]
 pub struct Ledger {
     // The StatSN of the next status.
     pub next: u32,
@@ -26,7 +28,7 @@ pub struct Ledger {
 }
 
 // What a resend renews of the header that was sent.
-#[derive(Drop)]
+#[derive(Clone, Copy)]
 pub struct Renewal {
     pub exp_cmd_sn: u32,
     pub max_cmd_sn: u32,
@@ -34,7 +36,7 @@ pub struct Renewal {
     pub numbering: Numbering,
 }
 
-#[derive(Drop)]
+#[derive(Clone, Copy)]
 pub enum Sent {
     Refused(Refusal),
     // The StatSN of a NOP-In that is no status.
@@ -42,19 +44,19 @@ pub enum Sent {
     Stored { stat_sn: u32, ledger: Ledger },
 }
 
-#[derive(Drop)]
+#[derive(Clone, Copy)]
 pub enum Acknowledged {
     Stale,
     Good { count: u32, ledger: Ledger },
 }
 
-#[derive(Drop)]
+#[derive(Clone, Copy)]
 pub enum Run {
     NotHeld,
     Of { first: u32, count: u32 },
 }
 
-#[derive(Drop)]
+#[derive(Clone, Copy)]
 pub enum Resent {
     NotHeld,
     Status(u32),

@@ -1,4 +1,6 @@
 // The statuses that a ledger holds: acknowledged by an ExpStatSN, and asked for by a status SNACK.
+#![tactic(auto)]
+
 ghost use Rattle.std.specs.Prelude.{◌≡◌, ℕ};
 ghost use Rattle.ledger.specs.Book.{LedgerBook, place, run_of};
 ghost use Rattle.ledger.specs.Agree.{Statuses, Agrees, AcknowledgesAt};

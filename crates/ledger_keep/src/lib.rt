@@ -1,4 +1,6 @@
 // The storing of a status in its connection's ledger.
+#![tactic(auto)]
+
 ghost use Rattle.std.specs.Prelude.{◌<◌};
 ghost use Rattle.response_layout.specs.WholeNumbers.{own_bytes};
 ghost use Rattle.ledger.specs.Book.{statuses, connections};

@@ -1,4 +1,6 @@
 // Which responses are statuses, which a ledger holds.
+#![tactic(auto)]
+
 ghost use Rattle.std.specs.Prelude.{◌≡◌};
 ghost use Rattle.ledger.specs.Book.{is_status};
 

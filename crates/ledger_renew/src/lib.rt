@@ -1,4 +1,6 @@
 // What a resend renews of a status for its task: a SCSI Response's ExpDataSN and SNACK tag.
+#![tactic(auto)]
+
 ghost use Rattle.std.specs.Prelude.{◌≡◌, ◌≤◌, length};
 ghost use Rattle.store.specs.Slot.{header_size};
 ghost use Rattle.ledger.specs.Book.{with_tag, renewed_for};

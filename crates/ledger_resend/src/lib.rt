@@ -1,4 +1,6 @@
 // A status that a ledger holds, resent.
+#![tactic(auto)]
+
 ghost use Rattle.std.specs.Prelude.{◌<◌, ◌≤◌, length};
 ghost use Rattle.store.specs.Slot.{header_size};
 ghost use Rattle.ledger.specs.Book.{connections};

@@ -1,4 +1,6 @@
 // A send on a connection: the header written, and the status stored in its ledger.
+#![tactic(auto)]
+
 ghost use Rattle.std.specs.Prelude.{◌<◌, ◌≤◌, length};
 ghost use Rattle.store.specs.Slot.{header_size};
 ghost use Rattle.ledger.specs.Book.{connections};

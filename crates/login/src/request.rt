@@ -45,7 +45,7 @@ fn request_step(
 }
 
 // What a PDU is to a login: a Login and where its data lies, or a refusal.
-#[derive(Drop)]
+#[derive(Clone, Copy)]
 enum Found {
     Login(Login, usize, usize),
     Refused(Refusal),

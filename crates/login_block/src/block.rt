@@ -16,7 +16,7 @@ use keys::judge::judge_pair;
 use text_block::block::{MAX_PAIRS, cut_pair, name_good, well_formed};
 
 // Whether a judgement refuses.
-#[derive(Drop)]
+#[derive(Clone, Copy)]
 enum Stop {
     Goes,
     Stops(u16),
@@ -33,7 +33,7 @@ fn stop_of(j: Judgement) -> Stop
 }
 
 // The first pair of what is left: whether its form is good, its key, and where its name and its value end.
-#[derive(Drop)]
+#[derive(Clone, Copy)]
 struct Pair {
     ok: bool,
     key: usize,
@@ -71,7 +71,7 @@ fn pair_in(rest: &[u8]) -> Pair
 }
 
 // The first pair of what is left, judged and answered: whether its form is good, the count of answered bytes, and its end.
-#[derive(Drop)]
+#[derive(Clone, Copy)]
 struct First {
     ok: bool,
     stop: Stop,
@@ -117,13 +117,13 @@ fn judge_first(
 }
 
 // A judged block: refused, or answered by the first bytes of the output.
-#[derive(Drop)]
+#[derive(Clone, Copy)]
 pub enum Verdict {
     Refused(u16),
     Answered(usize),
 }
 
-#[derive(Drop)]
+#[derive(Clone, Copy)]
 pub struct Judged {
     pub settled: Settled,
     pub verdict: Verdict,

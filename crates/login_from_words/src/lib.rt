@@ -1,4 +1,6 @@
 // Login and Logout Responses made of words.
+#![tactic(auto)]
+
 ghost use Rattle.std.specs.Prelude.{◌≡◌};
 ghost use Rattle.response_words.specs.ResponseWords.{login_response_of, logout_response_of};
 

@@ -1,4 +1,6 @@
 // A login request on a login's words, with its answer in words.
+#![tactic(auto)]
+
 ghost use Rattle.login_book.specs.Login.{login_step};
 ghost use Rattle.login_types.specs.Agree.{book_of};
 ghost use Rattle.login_words.specs.Login.{login_words, login_of, LoginSaid};

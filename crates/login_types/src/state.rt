@@ -4,7 +4,7 @@ ghost use Rattle.login_types.specs.Agree.{IsFresh};
 use key_table::parameters::Settled;
 use refusal::Refusal;
 
-#[derive(Drop)]
+#[derive(Clone, Copy)]
 pub struct State {
     // Refused, or in full feature phase.
     pub over: bool,
@@ -23,7 +23,7 @@ pub struct State {
 }
 
 // What a request that is not refused is answered; its text is the first `length` bytes of the text output.
-#[derive(Drop)]
+#[derive(Clone, Copy)]
 pub struct Accepted {
     // After this request.
     pub stage: u8,
@@ -34,14 +34,14 @@ pub struct Accepted {
     pub length: usize,
 }
 
-#[derive(Drop)]
+#[derive(Clone, Copy)]
 pub enum Answer {
     Refused(Refusal),
     Accepted(Accepted),
 }
 
 // The login after a request, and the answer.
-#[derive(Drop)]
+#[derive(Clone, Copy)]
 pub struct Step {
     pub state: State,
     pub answer: Answer,

@@ -3,6 +3,8 @@
 // A line that starts with 0 is a request, eleven numbers and a text: bytes 0 and 1 of the PDU, Version-min, ISID, TSIH, CID, the
 // live session's handle, the new handle, the lengths of the lent gather area and text output, and how many bytes are cut off the PDU. In
 // the text | stands for a zero byte. "params" writes the parameters in force. Other lines are copied, and "login" begins a login.
+#![tactic(auto)]
+
 mod answer;
 mod pdu;
 
@@ -14,7 +16,7 @@ use pdu::{first, least, put_pdu, short, words_of};
 use print::{find, past, put};
 
 // A login, with the gather area and the text output.
-#[derive(Drop)]
+#[derive(Clone, Copy)]
 struct Login {
     state: State,
     gather: [u8; 8192],

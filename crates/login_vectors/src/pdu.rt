@@ -6,7 +6,7 @@ use print::{find, past};
 use text_number::number::Number;
 
 // The first eleven words of a line as numbers, 0 where a word is none, and where the rest begins.
-#[derive(Drop)]
+#[derive(Clone, Copy)]
 pub(crate) struct Words {
     pub(crate) n: [u64; 11],
     pub(crate) rest: usize,

@@ -1,4 +1,6 @@
 // A login between requests as words, eight numbers, its settled values and which keys came; and the words of its answers.
+#![tactic(auto)]
+
 ghost use Rattle.std.specs.Prelude.{◌≡◌};
 ghost use Rattle.login_words.specs.Login.{login_words, login_fits, login_of, words_of, login_answer_words, changes_nothing};
 

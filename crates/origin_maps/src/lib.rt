@@ -1,5 +1,7 @@
 // The maps of origins, one for each connection: the places whose command came on it. A connection's map is taken by a number
 // that is written out, so that the compiler has no need of an array in memory.
+#![tactic(auto)]
+
 ghost use Rattle.std.specs.Prelude.{◌≡◌, ◌<◌, get_or, set, ltb};
 ghost use Rattle.std.specs.Int.Bits.{bit_or};
 ghost use Rattle.place_map.specs.Bit.{conns, each_without};

@@ -1,4 +1,6 @@
 // A request read into words, from the bytes of its header. Each kind is judged and written in its own branch.
+#![tactic(auto)]
+
 ghost use Rattle.std.specs.Prelude.{◌≡◌, ◌≤◌, length};
 ghost use Rattle.request_header.specs.declared.Limits.{Limits};
 ghost use Rattle.request_header.specs.Request.{read_pdu};

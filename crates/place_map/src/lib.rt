@@ -1,5 +1,7 @@
 // Maps of the 64 places of a command window, one bit for each: bit d is for the number R + d. Each function here says
 // which number it makes; what a map says of the places is the window's.
+#![tactic(auto)]
+
 ghost use Rattle.std.specs.Prelude.{◌≡◌, ◌-◌, ◌^◌, ◌<◌, ◌≤◌};
 ghost use Rattle.place_map.specs.Bit.{bits, bit_at, Gapless};
 

@@ -1,5 +1,7 @@
 // What the programs write: texts with numbers in them, and of a few texts the one of a number. What they read is searched here for
 // the end of a line or of a word.
+#![tactic(auto)]
+
 ghost use Rattle.std.specs.Prelude.{◌≡◌, ◌+◌, ◌≤◌, min, length};
 
 use libc::STDOUT_FILENO;

@@ -1,4 +1,6 @@
 // The answers of what may be asked of a session, as words.
+#![tactic(auto)]
+
 ghost use Rattle.std.specs.Prelude.{◌≡◌};
 ghost use Rattle.book.specs.Book.{Answer, Reply, length_reply};
 ghost use Rattle.request_header.specs.Request.{length_answer_of};

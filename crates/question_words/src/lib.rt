@@ -1,4 +1,6 @@
 // What may be asked of a session, on words, which changes nothing, and of the first bytes of a PDU.
+#![tactic(auto)]
+
 ghost use Rattle.std.specs.Prelude.{List, ℕ};
 ghost use Rattle.window.specs.Agree.{Commands, commands};
 ghost use Rattle.ledger.specs.Agree.{Statuses};

@@ -1,4 +1,6 @@
 // A read PDU: its common fields together with one of seven requests. Fields are named as RFC 7143 names them.
+#![tactic(auto)]
+
 pub mod lengths;
 
 ghost use Rattle.std.specs.Prelude.{◌≡◌};
@@ -6,12 +8,12 @@ ghost use Rattle.request_header.specs.Request.{limits};
 
 use refusal::Refusal;
 
-#[derive(Drop)]
+#[derive(Clone, Copy)]
 pub struct NopOut {
     pub target_transfer_tag: u32,
 }
 
-#[derive(Drop)]
+#[derive(Clone, Copy)]
 pub struct ScsiCommand {
     // F, R and W of byte 1.
     pub is_final: bool,
@@ -25,7 +27,7 @@ pub struct ScsiCommand {
     pub cdb_1: u64,
 }
 
-#[derive(Drop)]
+#[derive(Clone, Copy)]
 pub struct TaskManagement {
     pub function: u8,
     pub referenced_task_tag: u32,
@@ -33,7 +35,7 @@ pub struct TaskManagement {
     pub exp_data_sn: u32,
 }
 
-#[derive(Drop)]
+#[derive(Clone, Copy)]
 pub struct Login {
     // T and C of byte 1.
     pub transit: bool,
@@ -48,7 +50,7 @@ pub struct Login {
     pub cid: u16,
 }
 
-#[derive(Drop)]
+#[derive(Clone, Copy)]
 pub struct DataOut {
     // F of byte 1.
     pub is_final: bool,
@@ -57,13 +59,13 @@ pub struct DataOut {
     pub buffer_offset: u32,
 }
 
-#[derive(Drop)]
+#[derive(Clone, Copy)]
 pub struct Logout {
     pub reason: u8,
     pub cid: u16,
 }
 
-#[derive(Drop)]
+#[derive(Clone, Copy)]
 pub struct Snack {
     pub snack_type: u8,
     // A SNACK Tag where the type is 3.
@@ -72,7 +74,7 @@ pub struct Snack {
     pub run_length: u32,
 }
 
-#[derive(Drop)]
+#[derive(Clone, Copy)]
 pub enum Request {
     NopOut(NopOut),
     ScsiCommand(ScsiCommand),
@@ -84,7 +86,7 @@ pub enum Request {
 }
 
 // The common fields, 0 where the request has none, the request, and where its data segment lies in the input.
-#[derive(Drop)]
+#[derive(Clone, Copy)]
 pub struct Pdu {
     pub immediate: bool,
     pub lun: u64,
@@ -97,7 +99,7 @@ pub struct Pdu {
 }
 
 // What reading is held to: the longest data segment and the largest task management function.
-#[derive(Drop)]
+#[derive(Clone, Copy)]
 pub struct Limits {
     pub data_segment: u32,
     pub task_function: u8,
@@ -116,14 +118,14 @@ pub fn limits_in_force() -> Limits
     LIMITS
 }
 
-#[derive(Drop)]
+#[derive(Clone, Copy)]
 pub enum ReadAnswer {
     Got(Pdu),
     Refused(Refusal),
 }
 
 // The whole length of a PDU, or why its first bytes don't tell.
-#[derive(Drop)]
+#[derive(Clone, Copy)]
 pub enum LengthAnswer {
     Whole(u32),
     Refused(Refusal),

@@ -1,4 +1,6 @@
 // The fields of each kind of request, by its opcode.
+#![tactic(auto)]
+
 ghost use Rattle.std.specs.Prelude.{◌≡◌, ◌||◌, ◌≤◌, length, eqb};
 ghost use Rattle.field.specs.Field.{be_at, pick};
 ghost use Rattle.request_header.specs.Request.{nop_out_of, scsi_command_of, task_management_of, login_of, logout_of, request_of};

@@ -1,4 +1,6 @@
 // The whole length of a request PDU by its first bytes.
+#![tactic(auto)]
+
 ghost use Rattle.std.specs.Prelude.{◌≡◌};
 ghost use Rattle.request_header.specs.Request.{length_answer_of, length_asked};
 

@@ -1,4 +1,6 @@
 // A request PDU read whole, and its data segment.
+#![tactic(auto)]
+
 ghost use Rattle.std.specs.Prelude.{◌≡◌, ◌≤◌, length};
 ghost use Rattle.request_header.specs.Request.{answer_of, read_pdu, pdu_of, data_of};
 

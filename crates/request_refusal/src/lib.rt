@@ -1,4 +1,6 @@
 // The refusals of a request PDU before FIELD by its bytes, as numbers: a number goes back in a register, an enum through memory.
+#![tactic(auto)]
+
 ghost use Rattle.std.specs.Prelude.{◌≡◌};
 ghost use Rattle.request_header.specs.Request.{known};
 ghost use Rattle.request_header.specs.Verdicts.{refusal_before_field, refusal_numbered};

@@ -1,5 +1,7 @@
 // The field rules of the requests, over the bytes of a header. Each breach is FIELD. Each kind has its rules whole, so that who reads one
 // kind looks at no other.
+#![tactic(auto)]
+
 ghost use Rattle.std.specs.Prelude.{◌≡◌, ◌||◌, ◌&&◌, ◌≤◌, ◌%◌, length, leb, eqb};
 ghost use Rattle.field.specs.Field.{byte, bit};
 ghost use Rattle.request_header.specs.declared.Limits.{Limits};

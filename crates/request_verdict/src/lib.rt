@@ -1,4 +1,6 @@
 // The first refusal of a request PDU by its bytes, with FIELD, as a number.
+#![tactic(auto)]
+
 ghost use Rattle.std.specs.Prelude.{◌≡◌, true, ◌≤◌, length};
 ghost use Rattle.request_header.specs.Request.{known, opcode_of};
 ghost use Rattle.request_header.specs.Verdicts.{fields_ok, first_refusal};

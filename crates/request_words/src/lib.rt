@@ -1,4 +1,6 @@
 // Requests as words: what all kinds share, and the two that bear no CmdSN, Data-Out and SNACK, judged and written from the bytes of a header.
+#![tactic(auto)]
+
 ghost use Rattle.std.specs.Prelude.{◌≡◌, [], ◌∷◌, ◌≤◌, ◌<◌, length};
 ghost use Rattle.field.specs.Field.{be_at, byte, bit};
 ghost use Rattle.request_header.specs.declared.Limits.{Limits};

@@ -1,4 +1,6 @@
 // A response's own fields as whole numbers, kind by kind.
+#![tactic(auto)]
+
 ghost use Rattle.std.specs.Prelude.{◌≡◌, ◌+◌, ◌*◌, ◌%◌};
 ghost use Rattle.response_header.specs.declared.Numbers.{Numbers};
 ghost use Rattle.response_header.specs.declared.Response.TheVariants as R;

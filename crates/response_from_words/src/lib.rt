@@ -1,4 +1,6 @@
 // The response that words are, by the opcode in the first.
+#![tactic(auto)]
+
 ghost use Rattle.std.specs.Prelude.{◌≡◌};
 ghost use Rattle.response_words.specs.ResponseWords.{response_of};
 

@@ -1,4 +1,6 @@
 // The eight responses that are written, the three numbers that each carries, and whether a response can be written.
+#![tactic(auto)]
+
 pub mod judge;
 
 ghost use Rattle.std.specs.Prelude.{◌≡◌};
@@ -6,7 +8,7 @@ ghost use Rattle.response_header.specs.Response.{max_data_length};
 
 use refusal::Refusal;
 
-#[derive(Drop)]
+#[derive(Clone, Copy)]
 pub struct NopIn {
     pub data_segment_length: u32,
     pub lun: u64,
@@ -14,7 +16,7 @@ pub struct NopIn {
     pub target_transfer_tag: u32,
 }
 
-#[derive(Drop)]
+#[derive(Clone, Copy)]
 pub struct ScsiResponse {
     // O and U of byte 1.
     pub overflow: bool,
@@ -28,13 +30,13 @@ pub struct ScsiResponse {
     pub exp_data_sn: u32,
 }
 
-#[derive(Drop)]
+#[derive(Clone, Copy)]
 pub struct TaskManagementResponse {
     pub response: u8,
     pub initiator_task_tag: u32,
 }
 
-#[derive(Drop)]
+#[derive(Clone, Copy)]
 pub struct LoginResponse {
     pub transit: bool,
     pub csg: u8,
@@ -48,7 +50,7 @@ pub struct LoginResponse {
     pub status_detail: u8,
 }
 
-#[derive(Drop)]
+#[derive(Clone, Copy)]
 pub struct DataIn {
     // F and A of byte 1.
     pub is_final: bool,
@@ -61,7 +63,7 @@ pub struct DataIn {
     pub buffer_offset: u32,
 }
 
-#[derive(Drop)]
+#[derive(Clone, Copy)]
 pub struct LogoutResponse {
     pub response: u8,
     pub initiator_task_tag: u32,
@@ -69,7 +71,7 @@ pub struct LogoutResponse {
     pub time2retain: u16,
 }
 
-#[derive(Drop)]
+#[derive(Clone, Copy)]
 pub struct R2t {
     pub lun: u64,
     pub initiator_task_tag: u32,
@@ -79,12 +81,12 @@ pub struct R2t {
     pub desired_data_transfer_length: u32,
 }
 
-#[derive(Drop)]
+#[derive(Clone, Copy)]
 pub struct Reject {
     pub reason: u8,
 }
 
-#[derive(Drop)]
+#[derive(Clone, Copy)]
 pub enum Response {
     NopIn(NopIn),
     ScsiResponse(ScsiResponse),
@@ -96,7 +98,7 @@ pub enum Response {
     Reject(Reject),
 }
 
-#[derive(Drop)]
+#[derive(Clone, Copy)]
 pub struct Numbers {
     pub stat_sn: u32,
     pub exp_cmd_sn: u32,
@@ -114,7 +116,7 @@ pub fn max_data_in_force() -> u32
 }
 
 // A response by itself: whether it can be written.
-#[derive(Drop)]
+#[derive(Clone, Copy)]
 pub enum Judgement {
     Fits,
     Refused(Refusal),

@@ -1,10 +1,12 @@
 // A response's own fields as whole numbers, of whatever kind it is.
+#![tactic(auto)]
+
 ghost use Rattle.std.specs.Prelude.{◌≡◌, ◌≤◌};
 ghost use Rattle.response_header.specs.Response.{weigh};
 
 // A response's own fields, in whole numbers by the byte that each starts at. Between byte 23 and byte 36 stand the three numbers,
 // the first of which is 0 where has_stat_sn is false: in Data-In.
-#[derive(Drop)]
+#[derive(Clone, Copy)]
 pub struct OwnFields {
     pub at_0: u64,
     pub at_8: u64,

@@ -1,4 +1,6 @@
 // What words are: a response, or none. A word too wide for its field makes them none: no word is cut.
+#![tactic(auto)]
+
 ghost use Rattle.std.specs.Prelude.{◌≡◌};
 ghost use Rattle.refusal.specs.Refusal.{number};
 ghost use Rattle.response_words.specs.ResponseWords.{unfit_refusal};
@@ -15,7 +17,7 @@ pub const WIDE_16: u64 = 0x1_0000;
 pub const WIDE_8: u64 = 0x100;
 
 // What words are: a response, or none, with the data length that they state.
-#[derive(Drop)]
+#[derive(Clone, Copy)]
 pub enum FromWords {
     Response(Response),
     Unfit(u64),

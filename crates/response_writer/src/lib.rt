@@ -1,4 +1,6 @@
 // A response header written: made of its fields and the three numbers, and put into a lent buffer.
+#![tactic(auto)]
+
 ghost use Rattle.std.specs.Prelude.{◌≡◌, ◌+◌, ◌≤◌, length};
 ghost use Rattle.std.proofs.Math.Seq.{paste};
 ghost use Rattle.field.specs.Field.{pick};
@@ -12,7 +14,7 @@ use response_header::judge::judge;
 use response_header::{Judgement, Numbers, Response};
 use response_layout::OwnFields;
 
-#[derive(Drop)]
+#[derive(Clone, Copy)]
 pub enum WriteAnswer {
     Written,
     Refused(Refusal),

@@ -1,5 +1,7 @@
 // A send on words: a session as its numbers and maps, the arrays of the statuses' headers and tickets, and the response as words, which may be no
 // response.
+#![tactic(auto)]
+
 ghost use Rattle.std.specs.Prelude.{◌≡◌, List, ℕ, length};
 ghost use Rattle.window.specs.Agree.{Commands};
 ghost use Rattle.ledger.specs.Agree.{Statuses, statuses_in};

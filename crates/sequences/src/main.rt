@@ -1,5 +1,7 @@
 // The worked sequences of paper 01, and the lost segment in four variants, run on sessions. Each line that is written is
 // a call with its answer.
+#![tactic(auto)]
+
 mod commands;
 mod lines;
 mod pdu;

@@ -1,5 +1,7 @@
 // A session whole: made fresh. The calls stand in session_commands, session_connections, session_send, session_statuses, session_snack
 // and session_questions, over session_state. What is proved of every list of calls from a fresh session stands here (proofs/Tied).
+#![tactic(auto)]
+
 ghost use Rattle.session_state.specs.Agree.{IsFresh};
 ghost use Rattle.session.specs.Fresh.{fresh_state};
 
@@ -9,7 +11,7 @@ use session_state::{Conn, Session};
 use window::{WINDOW_BYTES, WINDOW_SLOTS};
 
 // A fresh session with its arrays.
-#[derive(Drop)]
+#[derive(Clone, Copy)]
 pub struct FreshSession {
     pub session: Session,
     pub headers: [u8; WINDOW_BYTES],

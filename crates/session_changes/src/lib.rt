@@ -1,4 +1,6 @@
 // What a call changes of a session's words: what is new is written, every other word stays.
+#![tactic(auto)]
+
 ghost use Rattle.std.specs.Prelude.{◌≡◌, List, ℕ, length};
 ghost use Rattle.session_state.specs.After.{after_window, after_conns, after_conn, after_ledger};
 ghost use Rattle.session_connections.specs.After.{closing};

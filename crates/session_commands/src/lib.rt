@@ -1,5 +1,7 @@
 // Commands of a session: offered on a connection by the initiator, and taken in order by the target. Neither call has a requirement of
 // its caller: they refuse. What they give back of the session is its window; `session_state::after_window` puts it in its place.
+#![tactic(auto)]
+
 ghost use Rattle.std.specs.Prelude.{◌≡◌, ◌&&◌, ◌≤◌, length};
 ghost use Rattle.request_header.specs.Request.{read_pdu, request_of};
 ghost use Rattle.request_header.specs.Verdicts.{fields_ok};
@@ -20,14 +22,14 @@ use store::HEADER_BYTES;
 use window::{Taken, WINDOW_BYTES, WINDOW_SLOTS, Window};
 
 // What an offered PDU is.
-#[derive(Drop)]
+#[derive(Clone, Copy)]
 pub enum Offered {
     Refused(Refusal),
     Immediate,
     Numbered(u32),
 }
 
-#[derive(Drop)]
+#[derive(Clone, Copy)]
 pub enum OfferAnswer {
     Refused(Refusal),
     Immediate,
@@ -35,20 +37,20 @@ pub enum OfferAnswer {
 }
 
 // With the window after it; of a refusal it is as it was.
-#[derive(Drop)]
+#[derive(Clone, Copy)]
 pub struct OfferStep {
     pub answer: OfferAnswer,
     pub window: Window,
 }
 
-#[derive(Drop)]
+#[derive(Clone, Copy)]
 pub enum TakeAnswer {
     Refused(Refusal),
     Taken(Taken),
 }
 
 // With the window after it; of a refusal it is as it was.
-#[derive(Drop)]
+#[derive(Clone, Copy)]
 pub struct TakeStep {
     pub answer: TakeAnswer,
     pub window: Window,

@@ -1,5 +1,7 @@
 // The connections of a session: opening one, and the logout that closes it or them all. Neither call has a requirement of its caller: they
 // refuse. What they give back of the session is what is new: a connection; a window, and which connections are closed.
+#![tactic(auto)]
+
 ghost use Rattle.std.specs.Prelude.{◌≡◌};
 ghost use Rattle.window.specs.Agree.{Commands};
 ghost use Rattle.ledger.specs.Agree.{Statuses};
@@ -13,7 +15,7 @@ use refusal::Refusal;
 use session_state::{Conn, Reached, Session, reach};
 use window::{CONNECTIONS, CONNS, Window};
 
-#[derive(Drop)]
+#[derive(Clone, Copy)]
 pub enum OpenAnswer {
     Refused(Refusal),
     // With the connection.
@@ -21,13 +23,13 @@ pub enum OpenAnswer {
 }
 
 // What a logout closes: every connection of the session, or its own.
-#[derive(Drop)]
+#[derive(Clone, Copy)]
 pub enum Closes {
     Session,
     Connection,
 }
 
-#[derive(Drop)]
+#[derive(Clone, Copy)]
 pub enum LogoutAnswer {
     Refused(Refusal),
     LoggedOut {
@@ -38,7 +40,7 @@ pub enum LogoutAnswer {
 }
 
 // With the window after it; of a refusal it is as it was.
-#[derive(Drop)]
+#[derive(Clone, Copy)]
 pub struct LogoutStep {
     pub answer: LogoutAnswer,
     pub window: Window,

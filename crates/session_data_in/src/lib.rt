@@ -1,5 +1,7 @@
 // What a session sends of a task's data: Data-In. The call has no requirement of its caller: it refuses. It changes nothing in the session;
 // what is new of the task's record is in the answer.
+#![tactic(auto)]
+
 ghost use Rattle.std.specs.Prelude.{List, ℕ};
 ghost use Rattle.task.specs.Agree.{record_of, data_in_step_of};
 ghost use Rattle.window.specs.Agree.{Commands};

@@ -1,6 +1,8 @@
 // A Data-Out that comes to a session with data that was asked for. The call has no requirement of its caller: it refuses. It changes nothing in the
 // session; what is new of the task's record is in the answer. Its two steps are there too, so that a caller whose record lies in words loads it only
 // for a Data-Out that is judged good.
+#![tactic(auto)]
+
 ghost use Rattle.std.specs.Prelude.{◌≡◌, ◌≤◌, length};
 ghost use Rattle.field.specs.Field.{be_at};
 ghost use Rattle.request_header.specs.Request.{read_pdu, data_out_of, data_length_of};

@@ -1,5 +1,7 @@
 // A SNACK that comes to a session for data that was sent. The call has no requirement of its caller: it refuses. It changes nothing in the session; what
 // is new of the task's record is in the answer.
+#![tactic(auto)]
+
 ghost use Rattle.std.specs.Prelude.{◌≡◌, List, ℕ, ◌≤◌, length};
 ghost use Rattle.field.specs.Field.{be_at};
 ghost use Rattle.request_header.specs.Request.{read_pdu, snack_of};

@@ -1,4 +1,6 @@
 // The header that a session writes for a task's data, with the window's two numbers of now.
+#![tactic(auto)]
+
 ghost use Rattle.std.specs.Prelude.{◌≡◌, ◌≤◌, length};
 ghost use Rattle.response_header.specs.declared.Numbers.{Numbers};
 ghost use Rattle.response_header.specs.declared.Response.{Response};

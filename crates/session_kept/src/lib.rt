@@ -1,4 +1,6 @@
 // A session kept whole in its words. What a call changes of them is in `session_changes`.
+#![tactic(auto)]
+
 ghost use Rattle.std.specs.Prelude.{◌≡◌};
 ghost use Rattle.session_words.specs.State.{session_of, window_maps, session_numbers};
 

@@ -1,5 +1,7 @@
 // What may be asked of a session, and changes nothing: the window's two numbers, the next StatSN of a connection, who holds a number; and
 // how long a PDU is, by its first bytes.
+#![tactic(auto)]
+
 ghost use Rattle.std.specs.Prelude.{◌≡◌, ℕ, ◌<◌, List, slice_index_or};
 ghost use Rattle.request_header.specs.Request.{length_answer_of};
 ghost use Rattle.window.specs.Book.{Book, empty, holder_of};
@@ -17,20 +19,20 @@ use request_header::{LIMITS, LengthAnswer};
 use session_state::{Reached, Session, reach};
 use window::{Origin, WINDOW_SLOTS, Window};
 
-#[derive(Drop)]
+#[derive(Clone, Copy)]
 pub struct WindowNumbers {
     pub exp_cmd_sn: u32,
     pub max_cmd_sn: u32,
 }
 
-#[derive(Drop)]
+#[derive(Clone, Copy)]
 pub enum NextAnswer {
     Refused(Refusal),
     Next(u32),
 }
 
 // Who holds a number.
-#[derive(Drop)]
+#[derive(Clone, Copy)]
 pub enum HolderAnswer {
     Free,
     Void,

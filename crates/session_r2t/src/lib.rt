@@ -1,5 +1,7 @@
 // What a session sends to ask for a task's data: R2Ts. The call has no requirement of its caller: it refuses. It changes nothing in the
 // session; what is new of the task's record is in the answer.
+#![tactic(auto)]
+
 ghost use Rattle.task.specs.Agree.{record_of, r2t_step_of, R2TStays};
 ghost use Rattle.window.specs.Agree.{Commands};
 ghost use Rattle.ledger.specs.Agree.{Statuses};

@@ -1,5 +1,7 @@
 // Sends a response of a session on a connection. The call has no requirement of its caller: it refuses. What it gives back of the session is the
 // connection's ledger, where it is new; `session_state::after_ledger` puts it in its place.
+#![tactic(auto)]
+
 ghost use Rattle.std.specs.Prelude.{ℕ, List};
 ghost use Rattle.task.specs.Agree.{record_of};
 ghost use Rattle.window.specs.Agree.{Commands};
@@ -15,7 +17,7 @@ use session_state::{Reached, Session, longest_of, reach};
 use store::HEADER_BYTES;
 use task::Task;
 
-#[derive(Drop)]
+#[derive(Clone, Copy)]
 pub enum SendAnswer {
     Refused(Refusal),
     // What is sent with this StatSN, and is no status.

@@ -1,5 +1,7 @@
 // What a SNACK asks for again: the run of held statuses that a PDU on a connection names. The call has no requirement of its caller, and
 // changes nothing.
+#![tactic(auto)]
+
 ghost use Rattle.std.specs.Prelude.{◌≡◌, ◌≤◌, length};
 ghost use Rattle.request_header.specs.declared.Request.TheVariants as Request;
 ghost use Rattle.request_header.specs.Request.{read_pdu, snack_of};
@@ -18,13 +20,13 @@ use request_rules::snack_ok;
 use session_state::{Reached, Session, limits_of, reach};
 
 // What a SNACK call asks for.
-#[derive(Drop)]
+#[derive(Clone, Copy)]
 pub enum Asked {
     Refused(Refusal),
     Run { beg_run: u32, run_length: u32 },
 }
 
-#[derive(Drop)]
+#[derive(Clone, Copy)]
 pub enum SnackAnswer {
     Refused(Refusal),
     Run { first: u32, count: u32 },

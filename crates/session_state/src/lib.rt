@@ -1,6 +1,8 @@
 // A session between calls: the command window and four connections, each with its status ledger. What a call changes is this small
 // struct by value and four arrays that the caller lends, each call only those that it touches: the window's headers and tickets, and
 // the headers and tickets of the statuses.
+#![tactic(auto)]
+
 ghost use Rattle.std.specs.Prelude.{◌≡◌};
 ghost use Rattle.session_state.specs.After.{after_window, after_conn, after_ledger};
 ghost use Rattle.session_state.specs.Limits.{limits_of, longest_of};
@@ -12,13 +14,13 @@ use response_header::MAX_DATA;
 use window::{CONNECTIONS, CONNS, Window};
 
 // A connection. Of one that is not open only that counts.
-#[derive(Drop)]
+#[derive(Clone, Copy)]
 pub struct Conn {
     pub is_open: bool,
     pub ledger: Ledger,
 }
 
-#[derive(Drop)]
+#[derive(Clone, Copy)]
 pub struct Session {
     // ErrorRecoveryLevel.
     pub level: u32,
@@ -27,7 +29,7 @@ pub struct Session {
 }
 
 // The connection that a call names.
-#[derive(Drop)]
+#[derive(Clone, Copy)]
 pub enum Reached {
     NoConn,
     Closed,

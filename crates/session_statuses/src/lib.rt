@@ -1,5 +1,7 @@
 // Held statuses of a session: acknowledged by the initiator, and resent. No call has a requirement of its caller: they refuse. What they give
 // back of the session is the connection's ledger, where it is new; `session_state::after_ledger` puts it in its place.
+#![tactic(auto)]
+
 ghost use Rattle.std.specs.Prelude.{ℕ, List};
 ghost use Rattle.task.specs.Agree.{record_of};
 ghost use Rattle.window.specs.Agree.{Commands};
@@ -14,14 +16,14 @@ use session_state::{Reached, Session, reach};
 use store::HEADER_BYTES;
 use task::Task;
 
-#[derive(Drop)]
+#[derive(Clone, Copy)]
 pub enum AcknowledgeAnswer {
     Refused(Refusal),
     // With the connection's ledger after it.
     Acknowledged { count: u32, ledger: Ledger },
 }
 
-#[derive(Drop)]
+#[derive(Clone, Copy)]
 pub enum ResendAnswer {
     Refused(Refusal),
     Resent(u32),

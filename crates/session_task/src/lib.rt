@@ -1,4 +1,6 @@
 // What a response that is sent has of its task's record: the ExpDataSN that a SCSI Response is written with, and whether it is the one that is due.
+#![tactic(auto)]
+
 ghost use Rattle.std.specs.Prelude.{◌≡◌};
 ghost use Rattle.task_book.specs.Record.{Record};
 ghost use Rattle.book.specs.Book.{completed, is_due};

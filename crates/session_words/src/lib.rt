@@ -1,4 +1,6 @@
 // A session between calls as words: its numbers and its bit maps as two arrays, which the caller keeps.
+#![tactic(auto)]
+
 ghost use Rattle.std.specs.Prelude.{◌≡◌, List, ℕ};
 ghost use Rattle.words.specs.Words.{flag_word};
 ghost use Rattle.session_words.specs.State.{conn_of_words, session_of};

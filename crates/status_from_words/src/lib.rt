@@ -1,4 +1,6 @@
 // SCSI and Task Management Responses made of words.
+#![tactic(auto)]
+
 ghost use Rattle.std.specs.Prelude.{◌≡◌};
 ghost use Rattle.response_words.specs.ResponseWords.{scsi_response_of, task_management_response_of};
 

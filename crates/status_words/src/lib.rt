@@ -1,5 +1,7 @@
 // The calls that ask for held statuses, on words: a session as its numbers and maps, and the arrays of the statuses' headers and tickets. A send is
 // in `send_words`.
+#![tactic(auto)]
+
 ghost use Rattle.std.specs.Prelude.{List, ℕ};
 ghost use Rattle.window.specs.Agree.{Commands};
 ghost use Rattle.ledger.specs.Agree.{Statuses, statuses_in};

@@ -1,5 +1,7 @@
 // Headers kept in slots of 48 bytes in an array that the caller lends: the command window and the status ledgers
 // keep theirs so.
+#![tactic(auto)]
+
 ghost use Rattle.std.specs.Prelude.{◌≡◌, ◌++◌, ◌+◌, ◌≤◌, length, take, drop};
 ghost use Rattle.std.proofs.Math.Seq.{paste};
 ghost use Rattle.store.specs.Slot.{header_size};

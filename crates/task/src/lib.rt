@@ -1,6 +1,8 @@
 // The code's record of a task, which the caller holds: a struct by value, and two arrays that the caller lends, in which the open R2Ts lie as
 // in a ring. Here its making; `task_data_in` has its Data-In, `task_snack` the SNACKs for its data, `task_r2t` its R2Ts, `task_out` its
 // Data-Out.
+#![tactic(auto)]
+
 ghost use Rattle.std.specs.Prelude.{◌≡◌, List, ℕ};
 ghost use Rattle.task_book.specs.Record.{making};
 ghost use Rattle.task_book.specs.Steps.{exp_data_sn_of};
@@ -21,7 +23,7 @@ pub const LAST_NUMBER: u32 = 0xffff_ffff;
 // Buffer offsets are below this.
 pub const OFFSET_END: u64 = 0x1_0000_0000;
 
-#[derive(Drop)]
+#[derive(Clone, Copy)]
 pub struct Task {
     pub given: TaskGiven,
     pub numbering: Numbering,
@@ -32,14 +34,14 @@ pub struct Task {
     pub open_count: u32,
 }
 
-#[derive(Drop)]
+#[derive(Clone, Copy)]
 pub enum MakeAnswer {
     Refused(Refusal),
     Made(Task),
 }
 
 // The header that is written, and what is new of the record.
-#[derive(Drop)]
+#[derive(Clone, Copy)]
 pub enum DataInAnswer {
     Refused(Refusal),
     Sent {
@@ -49,7 +51,7 @@ pub enum DataInAnswer {
     },
 }
 
-#[derive(Drop)]
+#[derive(Clone, Copy)]
 pub enum R2tAnswer {
     Refused(Refusal),
     Sent {
@@ -61,7 +63,7 @@ pub enum R2tAnswer {
 }
 
 // Where the data lies and how long it is, and what is new of the record.
-#[derive(Drop)]
+#[derive(Clone, Copy)]
 pub enum DataOutAnswer {
     // The refusal's number, which goes back in a register.
     Refused(u32),
@@ -75,7 +77,7 @@ pub enum DataOutAnswer {
 }
 
 // The run that is asked for; how many numbers are newly acknowledged; the run that is sent anew; and what is new of the record.
-#[derive(Drop)]
+#[derive(Clone, Copy)]
 pub enum DataSnackAnswer {
     // As of a Data-Out.
     Refused(u32),

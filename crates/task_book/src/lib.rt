@@ -1,8 +1,9 @@
 // The record of a task, which the caller holds: what was asked for and what came, and the rules of the calls that move data. There is no
 // function here: the parts that the record and the code's struct share, definitions (specs/) and laws (proofs/).
+#![tactic(auto)]
 
 // What a record is made from, and keeps.
-#[derive(Drop)]
+#[derive(Clone, Copy)]
 pub struct TaskGiven {
     pub initiator_task_tag: u32,
     pub lun: u64,
@@ -13,7 +14,7 @@ pub struct TaskGiven {
 }
 
 // The numbering of Data-In and R2T, one for both.
-#[derive(Drop)]
+#[derive(Clone, Copy)]
 pub struct Numbering {
     // How many were sent: the next DataSN and R2TSN.
     pub sent: u32,
@@ -26,14 +27,14 @@ pub struct Numbering {
 }
 
 // The next Data-In's offset, and the bytes of its burst so far.
-#[derive(Drop)]
+#[derive(Clone, Copy)]
 pub struct DataInSequence {
     pub offset: u64,
     pub burst: u32,
 }
 
 // Up to where data was asked for and up to where it came, and the next Data-Out's DataSN in its burst.
-#[derive(Drop)]
+#[derive(Clone, Copy)]
 pub struct DataOutSequence {
     pub asked: u64,
     pub came: u64,

@@ -1,4 +1,6 @@
 // What a data call changes of the words of a task's record: what is new is written, every other word stays.
+#![tactic(auto)]
+
 ghost use Rattle.std.specs.Prelude.{◌≡◌, length};
 ghost use Rattle.task.specs.Agree.{with_data_in, with_r2t, with_data_out};
 ghost use Rattle.task_words.specs.TaskWords.{task_of};

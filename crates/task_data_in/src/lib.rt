@@ -1,4 +1,6 @@
 // The Data-In that are sent for a task, over its record.
+#![tactic(auto)]
+
 ghost use Rattle.std.specs.Prelude.{◌≡◌, List, ℕ, ◌+◌, ◌<◌, ◌≤◌};
 ghost use Rattle.field.specs.Field.{pick};
 ghost use Rattle.task_book.specs.Record.{last_number, offset_end};

@@ -1,5 +1,7 @@
 // Data that the initiator sends for a task: an R2T that asked for it is open until the Data-Out that answer it brought the whole. The open R2Ts
 // lie in the two arrays that are lent with the record.
+#![tactic(auto)]
+
 ghost use Rattle.std.specs.Prelude.{◌≡◌, List, ℕ};
 ghost use Rattle.task_book.specs.Steps.{data_out_ok, data_out_step};
 ghost use Rattle.task.specs.Agree.{record_of, data_out_step_of};

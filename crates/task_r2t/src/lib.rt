@@ -1,4 +1,6 @@
 // The R2Ts of a task: each asks for data, and is opened in the two arrays that are lent with the record.
+#![tactic(auto)]
+
 ghost use Rattle.std.specs.Prelude.{◌≡◌, List, ℕ};
 ghost use Rattle.std.proofs.Math.ListN as Length;
 ghost use Rattle.task_book.specs.Record.{open_places};

@@ -1,4 +1,6 @@
 // SNACKs for a task's data: a run of Data-In and R2T asked for anew, a DataACK, and R-Data, after which all that isn't acknowledged is sent anew.
+#![tactic(auto)]
+
 ghost use Rattle.std.specs.Prelude.{◌≡◌, List, ℕ, ◌-◌};
 ghost use Rattle.task_book.specs.Steps.{snack_ok, data_run, data_acknowledged, data_restarted, data_snack_step};
 ghost use Rattle.task.specs.Agree.{record_of, data_snack_step_of};

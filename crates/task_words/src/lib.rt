@@ -1,5 +1,7 @@
 // A task's record as words: twelve numbers of 32 bits and four of 64, which the caller keeps beside the two arrays of open R2Ts. A call that moves
 // data loads them; what it changes of them is in `task_changes`.
+#![tactic(auto)]
+
 ghost use Rattle.std.specs.Prelude.{◌≡◌};
 ghost use Rattle.words.specs.Words.{flag_word};
 ghost use Rattle.task_words.specs.TaskWords.{task_of, task_numbers, task_wide};

@@ -56,7 +56,7 @@ pub fn name_good(s: &[u8]) -> bool
 }
 
 // The first pair of a text: its name ends before eq, its value before end; ok if its form is good.
-#[derive(Drop)]
+#[derive(Clone, Copy)]
 pub struct Span {
     pub eq: usize,
     pub end: usize,

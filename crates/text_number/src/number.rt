@@ -5,7 +5,7 @@ ghost use Rattle.text_number.specs.Number.{digit_of, number_in, number_of, decim
 
 use text::slice::append;
 
-#[derive(Drop)]
+#[derive(Clone, Copy)]
 pub enum Number {
     Value(u64),
     Bad,

@@ -1,5 +1,7 @@
 // The making of a record, and the calls that send for a task, on words: a session as its numbers and maps, which stay, and a task's record as its
 // numbers and the arrays of its open R2Ts. What comes for a task is in `data_out_words`.
+#![tactic(auto)]
+
 ghost use Rattle.std.specs.Prelude.{List, ℕ};
 ghost use Rattle.window.specs.Agree.{Commands};
 ghost use Rattle.ledger.specs.Agree.{Statuses};

@@ -2,6 +2,8 @@
 // changes is a small struct by value and two arrays that the caller lends: a place's header and ticket lie in its slot,
 // and stay there while the place moves to the front, so that handing out moves no bytes. The calls stand above:
 // `window_offer`, `window_take`, `window_logout`.
+#![tactic(auto)]
+
 ghost use Rattle.std.specs.Prelude.{◌≡◌, ◌<◌};
 ghost use Rattle.window.specs.PlaceSlot.{slots, slot_of};
 ghost use Rattle.window.specs.Book.{Book, exp_cmd_sn_of, max_cmd_sn_of};
@@ -18,7 +20,7 @@ pub const CONNECTIONS: u32 = 4;
 
 pub const CONNS: usize = 4;
 
-#[derive(Drop)]
+#[derive(Clone, Copy)]
 pub struct Window {
     // R.
     pub next: u32,
@@ -32,14 +34,14 @@ pub struct Window {
 }
 
 // A fresh window with its arrays.
-#[derive(Drop)]
+#[derive(Clone, Copy)]
 pub struct FreshWindow {
     pub window: Window,
     pub headers: [u8; WINDOW_BYTES],
     pub tickets: [u32; WINDOW_SLOTS],
 }
 
-#[derive(Drop)]
+#[derive(Clone, Copy)]
 pub enum Offered {
     Kept,
     Duplicate,
@@ -48,13 +50,13 @@ pub enum Offered {
 }
 
 // The connection that a command came on, if it is still its own.
-#[derive(Drop)]
+#[derive(Clone, Copy)]
 pub enum Origin {
     None,
     Connection(u32),
 }
 
-#[derive(Drop)]
+#[derive(Clone, Copy)]
 pub enum Taken {
     Nothing,
     Void(u32),

@@ -1,4 +1,6 @@
 // The effect of a logout on the command window: what becomes void, what is emptied, and what loses its origin.
+#![tactic(auto)]
+
 ghost use Rattle.std.specs.Prelude.{◌≡◌, [], get_or, set, eqb, ltb};
 ghost use Rattle.field.specs.Field.{pick};
 ghost use Rattle.place_map.specs.Bit.{without, each_without};
@@ -13,7 +15,7 @@ const CLOSE_SESSION: u8 = 0;
 
 const RECOVERY: u8 = 2;
 
-#[derive(Drop)]
+#[derive(Clone, Copy)]
 pub struct LogoutStep {
     pub emptied: u32,
     pub voided: u32,

@@ -1,4 +1,6 @@
 // An offer to the command window: kept, duplicate, passed or beyond.
+#![tactic(auto)]
+
 ghost use Rattle.std.specs.Prelude.{◌<◌, ◌≤◌, [], length, take};
 ghost use Rattle.store.specs.Slot.{header_size};
 ghost use Rattle.window.specs.PlaceSlot.{slots};
@@ -7,7 +9,7 @@ ghost use Rattle.window.specs.Agree.{Did, commands, state, Enters, offer_answer}
 
 use window::{Offered, PLACES, WINDOW_BYTES, WINDOW_SLOTS, Window, slot_of};
 
-#[derive(Drop)]
+#[derive(Clone, Copy)]
 pub struct OfferStep {
     pub answer: Offered,
     pub window: Window,

@@ -1,4 +1,6 @@
 // A take from the command window: the next command, a void number, or nothing.
+#![tactic(auto)]
+
 ghost use Rattle.std.specs.Prelude.{◌≡◌, ◌+◌, ◌≤◌, min, length};
 ghost use Rattle.store.specs.Slot.{header_size};
 ghost use Rattle.window.specs.Book.{Book, remembered, Call, handed_on, first_place};
@@ -9,7 +11,7 @@ use window::{Origin, Taken, WINDOW_BYTES, WINDOW_SLOTS, Window, slot_of};
 // How many hand-outs are remembered: 2^31.
 const REMEMBERED: u32 = 2147483648;
 
-#[derive(Drop)]
+#[derive(Clone, Copy)]
 pub struct TakeStep {
     pub answer: Taken,
     pub window: Window,

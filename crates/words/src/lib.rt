@@ -1,4 +1,6 @@
 // Words: the 64-bit numbers that the structs of drawbevel.h are read into and made of.
+#![tactic(auto)]
+
 ghost use Rattle.std.specs.Prelude.{◌≡◌};
 ghost use Rattle.words.specs.Words.{flag_word};
 

@@ -1,4 +1,6 @@
 // A response's header written from the words of the response.
+#![tactic(auto)]
+
 ghost use Rattle.std.specs.Prelude.{◌≡◌};
 ghost use Rattle.response_writer.specs.Writing.{Outcome};
 ghost use Rattle.response_words.specs.ResponseWords.{response_of};
