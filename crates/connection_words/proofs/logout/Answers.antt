@@ -1,0 +1,26 @@
+use Rattle.session_connections.specs.Answer.{logout_answer}
+use Rattle.call_words.specs.Session.{by_logout}
+use Rattle.call_words.proofs.Unchanged.{refused-said}
+use Rattle.connection_words.proofs.logout.Goals as goal
+
+pub returns-in-Refused : goal.returns-in-Refused
+returns-in-Refused c k ss =
+    let load = c.load-s.ensures in
+    let call = c.logout-step in
+    let e = c.in-Refused.is in
+    refused-said (rw (load, e) at (call.ensures k ss)) c.refused.ensures
+
+pub returns-in-LoggedOut : goal.returns-in-LoggedOut
+returns-in-LoggedOut c k ss =
+    let load = c.load-s.ensures in
+    let call = c.logout-step in
+    let e = c.in-LoggedOut.is in
+    let shut = c.close.ensures in
+    let kept = c.store_window.ensures in
+    record {
+      answer = logout_answer call.result.answer;
+      did = rw (shut.1, kept.2, ← load, e) (rw e at (call.ensures k ss));
+      words = rw e c.logged_out.ensures;
+      writes = rw (shut.0, kept.0, kept.1) (by_logout call.result.window _);
+      stays = rw e tt;
+    }

@@ -1,0 +1,6 @@
+use native.Mathlib.Omega.{arith}
+use Rattle.field.proofs.Laws.{bytes-join}
+use Rattle.field.proofs.pair.Goals as goal
+
+pub returns : goal.returns
+returns c = bytes-join 4 4 c.args.a c.args.b (omega arith)

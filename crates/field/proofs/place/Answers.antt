@@ -1,0 +1,21 @@
+-- `field::place`: what was passed is pasted; the measure is what is left of the 8 bytes.
+use Prim.Native.Nat.{◌-◌}
+use borrow.Author.Rules.{rules}
+use native.Mathlib.Omega.{arith}
+use Rattle.field.proofs.Laws.{paste_none, paste-next, paste-last}
+use Rattle.field.proofs.place.Goals as goal
+
+pub loop-i-init : goal.loop-i-init
+loop-i-init c = paste_none 8 c.args.h.now c.args.at c.args.t3
+
+pub loop-i-preserved : goal.loop-i-preserved
+loop-i-preserved c =
+    let a = c.args in
+    let l = c.loop-i in
+    paste-next 8 a.h.now a.at a.t3 c.requires (search rules) l.h l.i (omega arith) l.invariant
+
+pub returns : goal.returns
+returns c =
+    let a = c.args in
+    let l = c.loop-i in
+    paste-last 8 a.h.now a.at a.t3 l.h l.i (omega arith) l.invariant

@@ -1,0 +1,10 @@
+-- `field::place`: what was passed is pasted; the measure is what is left of the 8 bytes.
+use Prim.Native.Nat.{◌-◌}
+use Rattle.field.proofs.Laws.{Pasting}
+use Rattle.field.proofs.place.Given as goal
+
+abbrev pub invariant-loop-i : goal.invariant-loop-i
+invariant-loop-i l = Pasting 8 l.initial.h l.at l.bytes l.h l.i
+
+abbrev pub decreases-loop-i : goal.decreases-loop-i
+decreases-loop-i l = 8 - l.i

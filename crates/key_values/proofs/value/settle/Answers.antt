@@ -1,0 +1,25 @@
+-- The row of the key, the offer in it, and what the two settle, as in the definition.
+use Rattle.key_values.specs.Settle.{settling, offered}
+use Rattle.key_values.proofs.value.settle.Goals as goal
+
+pub row_of-row-requires : goal.row_of-row-requires
+row_of-row-requires c = c.requires
+
+pub is_bool-requires : goal.is_bool-requires
+is_bool-requires c = c.requires
+
+pub enum_told-1 : goal.enum_told-1
+enum_told-1 c = c.in-Bad.keys1
+
+pub enum_known-n : goal.enum_known-n
+enum_known-n c = c.in-Good.keys2
+
+pub returns-in-Bad : goal.returns-in-Bad
+unfolding settling offered
+returns-in-Bad c =
+    rw (← c.is_bool.ensures, ← c.row_of-row.ensures, ← c.offered_in-n.ensures, c.in-Bad.is)
+
+pub returns-in-Good : goal.returns-in-Good
+unfolding settling offered
+returns-in-Good c =
+    rw (← c.is_bool.ensures, ← c.row_of-row.ensures, ← c.offered_in-n.ensures, c.in-Good.is, c.reply_for-reply.ensures, c.settle_by-y.ensures)

@@ -1,0 +1,54 @@
+-- The definition, walked to the choice that the code takes.
+use Rattle.text.proofs.Laws.{past, here, quiet, loud, appended-whole}
+use Rattle.login_book.specs.Login.{request_step}
+use Rattle.login_types.specs.Agree.{book_of}
+use Rattle.login_book.proofs.Checks.{status-fits}
+use Rattle.login.proofs.Answers.{end-answers, gather-answers, judged-step}
+use mathlib.Core.Path.{refl, sym, ◌∙◌, subst}
+use Prim.Native.Nat.{ℕ, ◌≤◌, ◌-◌, ◌+◌}
+use native.Mathlib.Omega.{arith}
+use borrow.Author.Tests.{ne_eqb}
+use lib.ListN.{length}
+use Rattle.login.proofs.request.request_step.Goals as goal
+
+fits-at : (c : tie.Else1) → (let g = c.before.before.before.before.before.before.args in g.l.gathered + length g.piece.now ≤ 8192)
+fits-at c =
+    let g = c.before.before.before.before.before.before.args in
+    status-fits (book_of g.l) g.q (length g.piece.now) g.live (sym c.before.status-of.ensures ∙ c.if1.false)
+
+pub returns-then-s-ne0 : goal.returns-then-s-ne0
+unfolding request_step
+returns-then-s-ne0 c =
+    let s = c.status_of-s in
+    let r = here _ _ _ (loud _ _ s.ensures c.if-s-ne0.true) in
+    end-answers c.args.l _ _ _ _ _ c.end.ensures (rw s.ensures (sym (past _ _ _ _ (ne_eqb _ _ c.requires.2) r)))
+
+pub append-n-requires : goal.append-n-requires
+append-n-requires c =
+    let p = c.requires in
+    omega (arith, fits-at c, p.0, p.1)
+
+pub gathered_step-requires : goal.gathered_step-requires
+gathered_step-requires c =
+    subst (λ (n : ℕ). n ≤ 8192) (sym c.append-n.ensures.count) (fits-at c)
+
+pub returns-then-q : goal.returns-then-q
+unfolding request_step
+returns-then-q c =
+    let a = c.append-n.ensures in
+    let n = quiet _ _ c.status_of-s.ensures c.if-s-ne0.false in
+    gather-answers c.args.l _ _ _ _ c.args.q _ c.gathered_step.ensures (rw (a.count, appended-whole a)
+    (sym (past _ _ _ _ (ne_eqb _ _ c.requires.2) (past _ _ _ _ n (here _ _ _ c.if-q.true)))))
+
+pub judge_request-j-requires : goal.judge_request-j-requires
+judge_request-j-requires c =
+    let p = c.requires in
+    (p.0, p.1, fits-at c)
+
+pub returns : goal.returns
+unfolding request_step
+returns c =
+    let n = quiet _ _ c.status_of-s.ensures c.if-s-ne0.false in
+    let j = c.judge_request-j.ensures in
+    judged-step _ c.args.l c.args.q c.args.new _ _ _ _ _ _ _ _ c.finish.ensures j
+    (sym (past _ _ _ _ (ne_eqb _ _ c.requires.2) (past _ _ _ _ n (past _ _ _ _ c.if-q.false refl))))

@@ -1,0 +1,10 @@
+-- `login_vectors::pdu::words_of` meets its contract: a word is read at each turn.
+use Prim.Native.Nat.{◌≤◌, ◌-◌}
+use lib.ListN.{length}
+use Rattle.login_vectors.proofs.pdu.words_of.Given as goal
+
+abbrev pub invariant-loop-i : goal.invariant-loop-i
+invariant-loop-i l = (l.at ≤ length l.line) × (l.i ≤ 11)
+
+abbrev pub decreases-loop-i : goal.decreases-loop-i
+decreases-loop-i l = 11 - l.i

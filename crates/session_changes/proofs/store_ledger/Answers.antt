@@ -1,0 +1,19 @@
+use native.Mathlib.Omega.{arith}
+use lib.ListN.{length-set}
+use borrow.Author.Tests.{lt-ltb, le-ltb}
+use Rattle.session_changes.specs.Changes.{ledger_numbers}
+use Rattle.session_changes.proofs.Kept.{ledger-kept, conn-far}
+use Rattle.session_changes.proofs.store_ledger.Goals as goal
+
+pub bounds-n-at-then-conn-lt-CONNECTIONS : goal.bounds-n-at-then-conn-lt-CONNECTIONS
+bounds-n-at-then-conn-lt-CONNECTIONS c = simp length-set (omega arith)
+
+pub returns-then-conn-lt-CONNECTIONS : goal.returns-then-conn-lt-CONNECTIONS
+unfolding ledger_numbers
+returns-then-conn-lt-CONNECTIONS c =
+    let a = c.args in
+    (rw (lt-ltb _ _ c.if-conn-lt-CONNECTIONS.true), λ m. ledger-kept a.conn a.n.now m a.l c.requires c.if-conn-lt-CONNECTIONS.true)
+
+pub returns-else-conn-lt-CONNECTIONS : goal.returns-else-conn-lt-CONNECTIONS
+unfolding ledger_numbers
+returns-else-conn-lt-CONNECTIONS c = let a = c.args in (rw (le-ltb _ _ c.if-conn-lt-CONNECTIONS.false), λ m. conn-far a.conn _ _ c.if-conn-lt-CONNECTIONS.false)

@@ -1,0 +1,46 @@
+-- `session_connections::logout` meets its contract: the window's step, and the connections that are left.
+use Prim.Native.Nat.{◌≤◌}
+use mathlib.Core.Path.{refl, sym, ap, ◌∙◌}
+use Rattle.window.specs.Book as W
+use Rattle.book.specs.Book.{no_outputs, from_window, step, conns_left, logged_out}
+use Rattle.session_state.proofs.Steps.{met, as_lent, refusing, reach-none, reach-closed, open_at, reach-open}
+use Rattle.session_connections.proofs.Outcomes.{logout-eq, closing-leaves, left-agrees, logout-field, logout-done}
+use Rattle.session_connections.proofs.logout.Goals as goal
+
+pub returns-then-reason-gt2 : goal.returns-then-reason-gt2
+returns-then-reason-gt2 c k ss =
+    let a = c.args in
+    let i = rw c.in-Open.is at c.reach.ensures in
+    refusing _ _ 3 no_outputs refl (λ b g.
+    let v = open_at _ b a.conn _ g i in
+    logout-eq b a.conn a.reason _ ∙ reach-open b a.conn no_outputs _ v.book v.near v.is ∙ logout-field b a.conn a.reason c.if-reason-gt2.true)
+
+pub returns-in-NoConn : goal.returns-in-NoConn
+returns-in-NoConn c k ss =
+    let a = c.args in
+    let far : 4 ≤ a.conn = rw c.in-NoConn.is at c.reach.ensures in
+    refusing _ _ 7 no_outputs refl (λ b g. logout-eq b a.conn a.reason _ ∙ reach-none b a.conn no_outputs _ far)
+
+pub returns-in-Closed : goal.returns-in-Closed
+returns-in-Closed c k ss =
+    let a = c.args in
+    let n = rw c.in-Closed.is at c.reach.ensures in
+    refusing _ _ 8 no_outputs refl (λ b g. logout-eq b a.conn a.reason _ ∙ reach-closed _ b a.conn no_outputs _ g n.0 n.1)
+
+pub returns-else-reason-gt2 : goal.returns-else-reason-gt2
+unfolding logged_out
+returns-else-reason-gt2 c k ss =
+    let a = c.args in
+    let i = rw c.in-Open.is at c.reach.ensures in
+    let w = c.logout-step.ensures k in
+    record {
+      meets = λ b g.
+          let v = open_at _ b a.conn _ g i in
+          let m = w.meets b.window g.window in
+          met _ _ _ _ _ b _
+          (logout-eq b a.conn a.reason _ ∙ reach-open b a.conn no_outputs _ v.book v.near v.is ∙ logout-done b a.conn a.reason c.if-reason-gt2.false
+          ∙ ap (λ (y : W.Answer). step (from_window y) no_outputs (record { given = b.given; window = (W.book_step b.window (W.logout a.conn a.reason)).book; conns = conns_left b.conns a.conn a.reason })) (sym m.answer))
+          (left-agrees _ b a.conn a.reason _ _ _ g v.near (closing-leaves a.s.conns a.conn a.reason c.closed_by.result v.near g.conns_size c.closed_by.ensures) m.agrees);
+      stays = tt;
+      keeps = as_lent refl;
+    }

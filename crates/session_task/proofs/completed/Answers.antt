@@ -1,0 +1,26 @@
+-- `session_task::completed` meets its contract.
+use Rattle.session_task.proofs.completed.Goals as goal
+
+pub returns-in-NopIn : goal.returns-in-NopIn
+returns-in-NopIn c y e = rw c.in-NopIn.is
+
+pub returns-in-ScsiResponse : goal.returns-in-ScsiResponse
+returns-in-ScsiResponse c y e = rw (c.in-ScsiResponse.is, e, c.exp_data_sn.ensures)
+
+pub returns-in-TaskManagementResponse : goal.returns-in-TaskManagementResponse
+returns-in-TaskManagementResponse c y e = rw c.in-TaskManagementResponse.is
+
+pub returns-in-LoginResponse : goal.returns-in-LoginResponse
+returns-in-LoginResponse c y e = rw c.in-LoginResponse.is
+
+pub returns-in-DataIn : goal.returns-in-DataIn
+returns-in-DataIn c y e = rw c.in-DataIn.is
+
+pub returns-in-LogoutResponse : goal.returns-in-LogoutResponse
+returns-in-LogoutResponse c y e = rw c.in-LogoutResponse.is
+
+pub returns-in-R2t : goal.returns-in-R2t
+returns-in-R2t c y e = rw c.in-R2t.is
+
+pub returns-in-Reject : goal.returns-in-Reject
+returns-in-Reject c y e = rw c.in-Reject.is

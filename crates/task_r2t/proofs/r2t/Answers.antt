@@ -1,0 +1,29 @@
+-- `task_r2t::r2t` meets its contract.
+use mathlib.Core.Path.{refl, sym, ◌∙◌}
+use mathlib.Core.List.{[]}
+use borrow.Author.Rules.{rules}
+use Rattle.task_book.specs.Steps.{r2t_step}
+use Rattle.task_r2t.specs.R2T.{R2TSent}
+use Rattle.task_r2t.proofs.Laws.{r2t-fits}
+use Rattle.task_r2t.proofs.r2t.Goals as goal
+
+pub r2t_sent-sent-requires : goal.r2t_sent-sent-requires
+r2t_sent-sent-requires c = r2t-fits _ _ _ _ (c.r2t_ok.ensures [] []) c.if-r2t_ok.true
+
+pub push-requires : goal.push-requires
+push-requires c =
+    (r2t-fits _ _ _ _ (c.r2t_ok.ensures [] []) c.if-r2t_ok.true, (search rules, search rules))
+
+pub returns-then-r2t_ok : goal.returns-then-r2t_ok
+unfolding R2TSent
+returns-then-r2t_ok c =
+    let ok = c.r2t_ok in
+    let a = c.args in
+    c.r2t_sent-sent.ensures a.tags.now a.ends.now _ _ (sym (ok.ensures a.tags.now a.ends.now) ∙ c.if-r2t_ok.true)
+    c.push.ensures
+
+pub returns-else-r2t_ok : goal.returns-else-r2t_ok
+unfolding r2t_step
+returns-else-r2t_ok c =
+    let a = c.args in
+    record { meets = rw (← (c.r2t_ok.ensures a.tags.now a.ends.now), c.if-r2t_ok.false); stays = (refl, refl) }
