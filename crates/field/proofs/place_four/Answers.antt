@@ -6,7 +6,7 @@ use Rattle.field.proofs.Laws.{paste_none, paste-next, paste-last}
 use Rattle.field.proofs.place_four.Goals as goal
 
 pub loop-i-init : goal.loop-i-init
-loop-i-init c = paste_none 4 c.args.h.now c.args.at c.args.t3
+loop-i-init c = paste_none 4 c.args.h.now c.args.at c.args.bytes
 
 pub loop-i-preserved : goal.loop-i-preserved
 loop-i-preserved c =

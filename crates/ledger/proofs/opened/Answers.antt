@@ -5,8 +5,6 @@ use Rattle.ledger.specs.Book.{fresh_ledger, lookup}
 use Rattle.ledger.specs.Agree.{SlotHas}
 use Rattle.ledger.proofs.opened.Goals as goal
 
-}
-
 pub returns : goal.returns
 unfolding fresh_ledger lookup SlotHas
 returns c = record {
@@ -20,3 +18,4 @@ returns c = record {
     tickets_size = t;
     kept = λ j. ((tt));
   };
+}

@@ -6,11 +6,11 @@ use Rattle.request_words.proofs.Reading.{kind-read, kind-refused, be-one}
 use Rattle.pdu_words.proofs.logout.Goals as goal
 
 pub returns-then-not-logout_ok : goal.returns-then-not-logout_ok
-returns-then-not-logout_ok c m = kind-refused _ _ _ _ _ _ (c.logout_ok.ensures m) (not-true _ c.if-not-logout_ok.true)
+returns-then-not-logout_ok c m = kind-refused _ _ _ _ _ _ (c.logout_ok.ensures m) c.if-not-logout_ok.true
 
 pub returns : goal.returns
 unfolding common_words own_words opcode_word pdu_of request_of
 returns c m =
-    kind-read _ _ _ _ _ _ (c.logout_ok.ensures m) (not-false _ c.if-not-logout_ok.false) _ _
+    kind-read _ _ _ _ _ _ (c.logout_ok.ensures m) c.if-not-logout_ok.false _ _
     (rw (c.put_common.ensures, c.immediate.ensures, c.be.ensures.0, and-true))
     (rw (c.be-2.ensures.0, be-one, c.be-3.ensures.0))

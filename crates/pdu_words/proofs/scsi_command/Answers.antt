@@ -6,12 +6,12 @@ use Rattle.request_words.proofs.Reading.{kind-read, kind-refused, be-one}
 use Rattle.pdu_words.proofs.scsi_command.Goals as goal
 
 pub returns-then-not-scsi_command_ok : goal.returns-then-not-scsi_command_ok
-returns-then-not-scsi_command_ok c m = kind-refused _ _ _ _ _ _ (c.scsi_command_ok.ensures m) (not-true _ c.if-not-scsi_command_ok.true)
+returns-then-not-scsi_command_ok c m = kind-refused _ _ _ _ _ _ (c.scsi_command_ok.ensures m) c.if-not-scsi_command_ok.true
 
 pub returns : goal.returns
 unfolding common_words own_words opcode_word pdu_of request_of
 returns c m =
-    kind-read _ _ _ _ _ _ (c.scsi_command_ok.ensures m) (not-false _ c.if-not-scsi_command_ok.false) _ _
+    kind-read _ _ _ _ _ _ (c.scsi_command_ok.ensures m) c.if-not-scsi_command_ok.false _ _
     (rw (
       c.put_common.ensures,
       c.immediate.ensures,

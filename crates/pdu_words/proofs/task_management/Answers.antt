@@ -6,12 +6,12 @@ use Rattle.request_words.proofs.Reading.{kind-read, kind-refused, be-one}
 use Rattle.pdu_words.proofs.task_management.Goals as goal
 
 pub returns-then-not-task_management_ok : goal.returns-then-not-task_management_ok
-returns-then-not-task_management_ok c = kind-refused _ _ _ _ _ _ c.task_management_ok.ensures (not-true _ c.if-not-task_management_ok.true)
+returns-then-not-task_management_ok c = kind-refused _ _ _ _ _ _ c.task_management_ok.ensures c.if-not-task_management_ok.true
 
 pub returns : goal.returns
 unfolding common_words own_words opcode_word pdu_of request_of
 returns c =
-    kind-read _ _ _ _ _ _ c.task_management_ok.ensures (not-false _ c.if-not-task_management_ok.false) _ _
+    kind-read _ _ _ _ _ _ c.task_management_ok.ensures c.if-not-task_management_ok.false _ _
     (rw (
       c.put_common.ensures,
       c.immediate.ensures,

@@ -5,12 +5,12 @@ use Rattle.request_words.proofs.Reading.{kind-read, kind-refused, be-one, and-fa
 use Rattle.request_words.proofs.data_out.Goals as goal
 
 pub returns-then-not-data_out_ok : goal.returns-then-not-data_out_ok
-returns-then-not-data_out_ok c m = kind-refused _ _ _ _ _ _ (c.data_out_ok.ensures m) (not-true _ c.if-not-data_out_ok.true)
+returns-then-not-data_out_ok c m = kind-refused _ _ _ _ _ _ (c.data_out_ok.ensures m) c.if-not-data_out_ok.true
 
 pub returns : goal.returns
 unfolding common_words own_words opcode_word pdu_of request_of
 returns c m =
-    kind-read _ _ _ _ _ _ (c.data_out_ok.ensures m) (not-false _ c.if-not-data_out_ok.false) _ _
+    kind-read _ _ _ _ _ _ (c.data_out_ok.ensures m) c.if-not-data_out_ok.false _ _
     (rw (c.put_common.ensures, c.be.ensures.0, and-false))
     (rw (
       c.bit_word.ensures,

@@ -22,7 +22,7 @@ is_offered-requires c = long-past _ _ c.refusal_before_field-f.ensures c.if-f-ne
 
 pub returns-then-not-is_offered : goal.returns-then-not-is_offered
 returns-then-not-is_offered c =
-    offered-as _ _ c.refusal_before_field-f.ensures c.if-f-ne0.false c.is_offered.ensures (not-true _ c.if-not-is_offered.true)
+    offered-as _ _ c.refusal_before_field-f.ensures c.if-f-ne0.false c.is_offered.ensures c.if-not-is_offered.true
 
 pub be32-requires : goal.be32-requires
 be32-requires c =
@@ -31,10 +31,10 @@ be32-requires c =
 
 pub returns-then-flag : goal.returns-then-flag
 returns-then-flag c =
-    let o = offered-as _ _ c.refusal_before_field-f.ensures c.if-f-ne0.false c.is_offered.ensures (not-false _ c.if-not-is_offered.false) in
+    let o = offered-as _ _ c.refusal_before_field-f.ensures c.if-f-ne0.false c.is_offered.ensures c.if-not-is_offered.false in
     rw (sym c.flag.ensures ∙ c.if-flag.true) at o
 
 pub returns-else-flag : goal.returns-else-flag
 returns-else-flag c =
-    let o = offered-as _ _ c.refusal_before_field-f.ensures c.if-f-ne0.false c.is_offered.ensures (not-false _ c.if-not-is_offered.false) in
+    let o = offered-as _ _ c.refusal_before_field-f.ensures c.if-f-ne0.false c.is_offered.ensures c.if-not-is_offered.false in
     rw c.be32.ensures (rw (sym c.flag.ensures ∙ c.if-flag.false) at o)

@@ -6,7 +6,7 @@ use Rattle.field.proofs.Laws.{paste_none, paste-next, paste-last}
 use Rattle.store.proofs.place.Goals as goal
 
 pub loop-i-init : goal.loop-i-init
-loop-i-init c = paste_none 48 c.args.headers.now c.args.at c.args.t3
+loop-i-init c = paste_none 48 c.args.headers.now c.args.at c.args.bytes
 
 pub loop-i-preserved : goal.loop-i-preserved
 loop-i-preserved c =

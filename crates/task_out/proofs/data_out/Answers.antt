@@ -20,7 +20,7 @@ returns-then-not-data_out_ok c =
     let a = c.args in
     let ok = c.data_out_ok in
     out-refused a.t a.tags.now a.ends.now a.initiator-task-tag a.p a.length (omega (arith, c.if-count-eq0.false))
-    ok.result (ok.ensures a.tags.now a.ends.now) (not-true ok.result c.if-not-data_out_ok.true)
+    ok.result (ok.ensures a.tags.now a.ends.now) c.if-not-data_out_ok.true
 
 pub overflow_add-result-else-p : goal.overflow_add-result-else-p
 overflow_add-result-else-p c =
@@ -29,7 +29,7 @@ overflow_add-result-else-p c =
     record {
       fits = out-left a.t a.tags.now a.ends.now a.initiator-task-tag a.p a.length
           (omega (arith, c.if-count-eq0.false))
-          ok.result (ok.ensures a.tags.now a.ends.now) (not-false ok.result c.if-not-data_out_ok.false);
+          ok.result (ok.ensures a.tags.now a.ends.now) c.if-not-data_out_ok.false;
     }
 
 pub returns-then-p : goal.returns-then-p
@@ -37,11 +37,11 @@ returns-then-p c =
     let a = c.args in
     let ok = c.data_out_ok in
     out-ends a.t a.tags.now a.ends.now a.initiator-task-tag a.p a.length (omega (arith, c.if-count-eq0.false))
-    ok.result (ok.ensures a.tags.now a.ends.now) (not-false ok.result c.if-not-data_out_ok.false) c.if-p.true
+    ok.result (ok.ensures a.tags.now a.ends.now) c.if-not-data_out_ok.false c.if-p.true
 
 pub returns-else-p : goal.returns-else-p
 returns-else-p c =
     let a = c.args in
     let ok = c.data_out_ok in
     out-goes-on a.t a.tags.now a.ends.now a.initiator-task-tag a.p a.length (omega (arith, c.if-count-eq0.false))
-    ok.result (ok.ensures a.tags.now a.ends.now) (not-false ok.result c.if-not-data_out_ok.false) c.if-p.false
+    ok.result (ok.ensures a.tags.now a.ends.now) c.if-not-data_out_ok.false c.if-p.false

@@ -5,19 +5,19 @@ use Rattle.task_snack.proofs.data_snack.Goals as goal
 
 pub returns-then-not-snack_ok : goal.returns-then-not-snack_ok
 unfolding data_snack_step
-returns-then-not-snack_ok c ts es = rw (← (c.snack_ok.ensures ts es), not-true c.snack_ok.result c.if-not-snack_ok.true)
+returns-then-not-snack_ok c ts es = rw (← (c.snack_ok.ensures ts es), c.if-not-snack_ok.true)
 
 pub returns-then-level-eq0 : goal.returns-then-level-eq0
 unfolding data_snack_step
 returns-then-level-eq0 c ts es =
     let ok = c.snack_ok in
-    rw (← (ok.ensures ts es), not-false ok.result c.if-not-snack_ok.false, eq-eqb _ _ c.if-level-eq0.true)
+    rw (← (ok.ensures ts es), c.if-not-snack_ok.false, eq-eqb _ _ c.if-level-eq0.true)
 
 pub returns-then-p-eq-DATA_OR_R2T : goal.returns-then-p-eq-DATA_OR_R2T
 unfolding data_snack_step data_snack_by
 returns-then-p-eq-DATA_OR_R2T c ts es =
     let ok = c.snack_ok in
-    rw (← (ok.ensures ts es), not-false ok.result c.if-not-snack_ok.false, ne_eqb _ _ c.if-level-eq0.false, eq-eqb _ _ c.if-p-eq-DATA_OR_R2T.true)
+    rw (← (ok.ensures ts es), c.if-not-snack_ok.false, ne_eqb _ _ c.if-level-eq0.false, eq-eqb _ _ c.if-p-eq-DATA_OR_R2T.true)
     (c.data_run.ensures ts es)
 
 pub returns-then-p-eq-DATA_ACK : goal.returns-then-p-eq-DATA_ACK
@@ -26,7 +26,7 @@ returns-then-p-eq-DATA_ACK c ts es =
     let ok = c.snack_ok in
     rw (
       ← (ok.ensures ts es),
-      not-false ok.result c.if-not-snack_ok.false,
+      c.if-not-snack_ok.false,
       ne_eqb _ _ c.if-level-eq0.false,
       ne_eqb _ _ c.if-p-eq-DATA_OR_R2T.false,
       eq-eqb _ _ c.if-p-eq-DATA_ACK.true,
@@ -39,7 +39,7 @@ returns c ts es =
     let ok = c.snack_ok in
     rw (
       ← (ok.ensures ts es),
-      not-false ok.result c.if-not-snack_ok.false,
+      c.if-not-snack_ok.false,
       ne_eqb _ _ c.if-level-eq0.false,
       ne_eqb _ _ c.if-p-eq-DATA_OR_R2T.false,
       ne_eqb _ _ c.if-p-eq-DATA_ACK.false,

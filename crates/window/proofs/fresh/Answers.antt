@@ -16,8 +16,6 @@ no_origin c = rw (zeros c) (maps_none (origin_bit c) 64 refl)
     zeros (suc (suc (suc zero))) = refl
     zeros (suc (suc (suc (suc c)))) = refl
 
-}
-
 pub returns : goal.returns
 unfolding fresh_book next
 returns c = record {
@@ -36,3 +34,4 @@ returns c = record {
   };
   zero_headers = search rules;
   zero_tickets = search rules;
+}

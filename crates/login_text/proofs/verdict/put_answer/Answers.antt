@@ -14,7 +14,7 @@ few : (c : tie.After-append-arg2) → c.before.before.before.before.v2.given.0.0
 few c = subst (λ (x : Verdict). count_of x ≤ length c.before.before.before.before.before.before.before.before.args.answer.now) c.before.before.before.before.v2.given.1 c.before.before.before.before.before.before.before.before.requires.0
 
 pub returns-then-not-named : goal.returns-then-not-named
-returns-then-not-named c = rw (c.in-Answered.is, not-true c.args.named c.if-not-named.true) (refl, refl)
+returns-then-not-named c = rw (c.in-Answered.is, c.if-not-named.true) (refl, refl)
 
 pub slice_bounds-append-end : goal.slice_bounds-append-end
 slice_bounds-append-end c = sym (length-take-le _ _ (few c))
@@ -28,4 +28,4 @@ pub returns-in-Refused : goal.returns-in-Refused
 returns-in-Refused c = rw c.in-Refused.is (refl, refl)
 
 pub returns-else-not-named : goal.returns-else-not-named
-returns-else-not-named c = rw (c.in-Answered.is, not-false c.args.named c.if-not-named.false) (refl, appended-front c.append.ensures)
+returns-else-not-named c = rw (c.in-Answered.is, c.if-not-named.false) (refl, appended-front c.append.ensures)

@@ -18,7 +18,7 @@ is_name_byte-requires c = tt
 
 pub returns-then-not-is_name_byte : goal.returns-then-not-is_name_byte
 returns-then-not-is_name_byte c =
-    sym (all-miss name_byte _ c.loop-i.i (omega arith) (sym c.is_name_byte.ensures ∙ not-true _ c.if-not-is_name_byte.true)) ∙ c.loop-i.invariant.1
+    sym (all-miss name_byte _ c.loop-i.i (omega arith) (sym c.is_name_byte.ensures ∙ c.if-not-is_name_byte.true)) ∙ c.loop-i.invariant.1
 
 pub overflow_add-i : goal.overflow_add-i
 overflow_add-i c = omega arith
@@ -28,7 +28,7 @@ loop-i-smaller c = omega arith
 
 pub loop-i-preserved : goal.loop-i-preserved
 loop-i-preserved c =
-    (omega arith, sym (all-step name_byte _ c.loop-i.i (omega arith) (sym c.is_name_byte.ensures ∙ not-false _ c.if-not-is_name_byte.false)) ∙ c.loop-i.invariant.1)
+    (omega arith, sym (all-step name_byte _ c.loop-i.i (omega arith) (sym c.is_name_byte.ensures ∙ c.if-not-is_name_byte.false)) ∙ c.loop-i.invariant.1)
 
 pub returns : goal.returns
 returns c =
