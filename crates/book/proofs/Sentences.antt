@@ -33,7 +33,7 @@ use Rattle.book.specs.Events.{event, Turn, turn, booked, book_run}
 use Rattle.book.specs.Effects.{WindowEffect, hands_out, ConnectionEffect, opens, closes, sends, acknowledges, window_effect, Past, nothing_done, and_then}
 use Rattle.book.specs.Commands.{same, hand_outs, next, distance, among_next, among_last, Latest, by, latest_offer, origin_of, held, exp_cmd_sn_of, max_cmd_sn_of, voided_since, emptied}
 use Rattle.book.specs.Statuses.{is_open_at, last_sent, acknowledged_since}
-use Rattle.book.specs.Demand.{Takes, Offers, Shows, Resends, Holds, TellsNext, NotRefused, is_numbered, Sentences, Each, Demand3}
+use Rattle.book.specs.Demand.{Takes, Offers, Shows, Resends, Holds, TellsNext, NotRefused, is_numbered_pdu, Sentences, Each, Demand3}
 use Rattle.response_header.proofs.Writing.{length-header}
 use Rattle.book.proofs.Renewed.{length-renewed, renewed-other, renewed-apart, renewed-data, renewed-tag, renewed-untagged, renewed-exp, renewed-max}
 use Rattle.book.proofs.Small.{apart, share-fits, by-data-out, by-snack, completed-status, IsOffered, is_denied, is_immediate, is_numbered, offered-is, offered-number}
@@ -527,15 +527,15 @@ module _ (g : Given) (ds : List WindowEffect) (b : Book) (i : WindowInv g ds b.w
 
 module _ (g : Given) (past : Past) (b : Book) (i : Inv g past b) where
   -- a numbered offer's answer, unless it is refused
-  offers-by : (c t : ℕ) (p : List ℕ) → is_numbered p ≡ true → {x : Offered} → IsOffered p x → NotRefused (offer_by b c t p x).answer
+  offers-by : (c t : ℕ) (p : List ℕ) → is_numbered_pdu p ≡ true → {x : Offered} → IsOffered p x → NotRefused (offer_by b c t p x).answer
       → Offers g past.window (cmd_sn_of p) (offer_by b c t p x).answer
-  unfolding is_numbered offer_by
+  unfolding is_numbered_pdu offer_by
   offers-by c t p m (is_denied n) q = absurd (q n refl)
   offers-by c t p m (is_immediate e) q = let z : not true ≡ true = rw e at m in let y : ◌≡◌ {A = ℕ} 0 1 = cc in absurd (omega arith)
   offers-by c t p m (is_numbered e) q =
       unfold by_window in (unfold W.book_step in (offers-at g past.window b i.window (cmd_sn_of p) (record { header = ListN.take 48 p; ticket = t; origin = connection c; void = false })))
 
-  offers-for : (c t : ℕ) (p : List ℕ) (x : Choice) → is_numbered p ≡ true → NotRefused (book_step b (offer c t p) x).answer
+  offers-for : (c t : ℕ) (p : List ℕ) (x : Choice) → is_numbered_pdu p ≡ true → NotRefused (book_step b (offer c t p) x).answer
       → Offers g past.window (cmd_sn_of p) (book_step b (offer c t p) x).answer
   unfolding book_step
   offers-for c t p x m =

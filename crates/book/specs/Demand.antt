@@ -92,8 +92,8 @@ abbrev pub NotRefused : Answer → Type 0
 NotRefused a = (n : ℕ) → a ≡ refused n → ⊥
 
 -- "I set is immediate .. Else it is numbered": bit 0x40 of an offered PDU's first byte is clear.
-unfoldable pub is_numbered : (pdu : List ℕ) → Bool
-is_numbered pdu = not (bit (byte pdu 0) 64)
+unfoldable pub is_numbered_pdu : (pdu : List ℕ) → Bool
+is_numbered_pdu pdu = not (bit (byte pdu 0) 64)
 
 pub record Sentences (g : Given) (past : Past) (e : Event) : Type 0 where
   -- "Hand-out k .. bears the first number plus k, modulo 2^32."
@@ -102,7 +102,7 @@ pub record Sentences (g : Given) (past : Past) (e : Event) : Type 0 where
   pub takes : (out : Outputs) → e.call ≡ take out → header_size ≤ length out.header → Takes g past.window out.header e.answer e.out.header
   pub short_takes : (out : Outputs) → e.call ≡ take out → length out.header < header_size → (e.answer ≡ refused 1) × (e.out ≡ out)
   -- "A numbered offer, not refused, is kept exactly when .."
-  pub offers : (c t : ℕ) (pdu : List ℕ) → e.call ≡ offer c t pdu → is_numbered pdu ≡ true → NotRefused e.answer → Offers g past.window (cmd_sn_of pdu) e.answer
+  pub offers : (c t : ℕ) (pdu : List ℕ) → e.call ≡ offer c t pdu → is_numbered_pdu pdu ≡ true → NotRefused e.answer → Offers g past.window (cmd_sn_of pdu) e.answer
   -- "Kept offers = handed out + held + emptied by logouts." After the call; what is held is among the next 64.
   pub balance : kept_offers (window_effect e ∷ past.window) ≡ hand_outs (window_effect e ∷ past.window) + held_now g (window_effect e ∷ past.window) + emptied (window_effect e ∷ past.window)
   pub within : (n : ℕ) → held g (window_effect e ∷ past.window) n ≡ true → among_next g (window_effect e ∷ past.window) n ≡ true

@@ -12,10 +12,10 @@ pub loop-i-preserved : goal.loop-i-preserved
 loop-i-preserved c =
     let a = c.args in
     let l = c.loop-i in
-    paste-next 8 a.h.now a.at a.t3 c.requires (search rules) l.h l.i (omega arith) l.invariant
+    paste-next 8 a.h.now a.at a.bytes c.requires (search rules) l.h l.i (omega arith) l.invariant
 
 pub returns : goal.returns
 returns c =
     let a = c.args in
     let l = c.loop-i in
-    paste-last 8 a.h.now a.at a.t3 l.h l.i (omega arith) l.invariant
+    paste-last 8 a.h.now a.at a.bytes l.h l.i (omega arith) l.invariant

@@ -4,8 +4,5 @@ use lib.ListN.{length-set}
 use mathlib.Core.Path.{sym}
 use Rattle.key_settled.proofs.put.Goals as goal
 
-pub shape_of-values : goal.shape_of-values
-shape_of-values c = simp length-set
-
 pub returns-else-k-values : goal.returns-else-k-values
 returns-else-k-values c = sym (set_out c.args.values.now _ _ c.if-k-values.false)

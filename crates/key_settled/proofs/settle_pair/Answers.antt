@@ -7,15 +7,6 @@ pub returns-then-k-eq-KNOWN : goal.returns-then-k-eq-KNOWN
 unfolding after
 returns-then-k-eq-KNOWN c = rw (eq-eqb _ _ c.if-k-eq-KNOWN.true)
 
-pub enum_told-1 : goal.enum_told-1
-enum_told-1 c = c.in-Refused.keys1
-
-pub enum_told-in-Said : goal.enum_told-in-Said
-enum_told-in-Said c = c.in-Said.keys2
-
-pub enum_known-j : goal.enum_known-j
-enum_known-j c = c.in-Settles.keys3
-
 pub returns-in-Refused : goal.returns-in-Refused
 unfolding after
 returns-in-Refused c = rw (ne_eqb _ _ c.if-k-eq-KNOWN.false, c.in-Refused.is)

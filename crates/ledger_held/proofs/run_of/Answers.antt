@@ -17,25 +17,25 @@ pub returns-then-held-place : goal.returns-then-held-place
 returns-then-held-place c k ss b g =
     let a = c.args in
     let p = c.place_of-place in
-    run-far b a.beg-run a.run_length p.result a.l.held (p.ensures k ss b g) g.held c.if-beg_run-run_length.false c.if-held-place.true
+    run-far b a.beg_run a.run_length p.result a.l.held (p.ensures k ss b g) g.held c.if-beg_run-run_length.false c.if-held-place.true
 
 pub returns-then-run_length-eq0 : goal.returns-then-run_length-eq0
 returns-then-run_length-eq0 c k ss b g =
     let a = c.args in
     let p = c.place_of-place in
-    run-rest b a.beg-run a.run_length p.result a.l.held (p.ensures k ss b g) g.held c.if-beg_run-run_length.false
+    run-rest b a.beg_run a.run_length p.result a.l.held (p.ensures k ss b g) g.held c.if-beg_run-run_length.false
     c.if-held-place.false c.if-run_length-eq0.true
 
 pub returns-then-run_length-held : goal.returns-then-run_length-held
 returns-then-run_length-held c k ss b g =
     let a = c.args in
     let p = c.place_of-place in
-    run-part b a.beg-run a.run_length p.result a.l.held (p.ensures k ss b g) g.held c.if-beg_run-run_length.false
+    run-part b a.beg_run a.run_length p.result a.l.held (p.ensures k ss b g) g.held c.if-beg_run-run_length.false
     c.if-held-place.false c.if-run_length-eq0.false c.if-run_length-held.true
 
 pub returns-else-run_length-held : goal.returns-else-run_length-held
 returns-else-run_length-held c k ss b g =
     let a = c.args in
     let p = c.place_of-place in
-    run_long b a.beg-run a.run_length p.result a.l.held (p.ensures k ss b g) g.held c.if-beg_run-run_length.false
+    run_long b a.beg_run a.run_length p.result a.l.held (p.ensures k ss b g) g.held c.if-beg_run-run_length.false
     c.if-held-place.false c.if-run_length-eq0.false c.if-run_length-held.false

@@ -20,7 +20,7 @@ pub returns-then-l-place : goal.returns-then-l-place
 returns-then-l-place c =
     let a = c.args in
     record {
-      meets = λ b g. resend-missing a.c a.l _ a.out.now b a.stat-sn _ a.renewal g (c.place_of-place.ensures a.c _ b g)
+      meets = λ b g. resend-missing a.c a.l _ a.out.now b a.stat_sn _ a.renewal g (c.place_of-place.ensures a.c _ b g)
           c.if-l-place.true;
       stays = refl;
       out_size = refl;
@@ -36,7 +36,7 @@ returns c =
     let p = c.place_of-place in
     let a = c.args in
     let ss = statuses_in a.headers.now a.tickets.now in
-    let slot = a.c * 32 + a.stat-sn % 32 in
+    let slot = a.c * 32 + a.stat_sn % 32 in
     let h = in_slot a.headers.now slot in
     let sz = size a.headers.now slot (omega arith) in
     let got : c.get.new.out ≡ h ++ drop 48 a.out.now = unfold in_slot in c.get.ensures in
@@ -47,7 +47,7 @@ returns c =
     (renew h (drop 48 a.out.now) a.renewal sz) in
     let fits = length-renewed h a.renewal ∙ sz in
     rw is (record {
-      meets = λ b g. resend-found a.c a.l ss a.out.now b a.stat-sn p.result a.renewal g (p.ensures a.c ss b g) (omega arith) held;
+      meets = λ b g. resend-found a.c a.l ss a.out.now b a.stat_sn p.result a.renewal g (p.ensures a.c ss b g) (omega arith) held;
       stays = tt;
       out_size = headed-size (renewed h a.renewal) a.out.now fits (omega arith);
       out_rest = headed-rest (renewed h a.renewal) a.out.now fits;

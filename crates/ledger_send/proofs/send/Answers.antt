@@ -32,9 +32,9 @@ returns-then-not-due c =
     let a = c.args in
     let ok = fits _ _ c.judge.ensures c.in-Fits.is in
     let undue : a.due ≡ false = unset _ _ refl c.if-not-due.true in
-    sends-refused a.c a.l a.ticket a.r a.max-data a.due a.exp_cmd_sn a.max_cmd_sn a.out.now
+    sends-refused a.c a.l a.ticket a.r a.max_data a.due a.exp_cmd_sn a.max_cmd_sn a.out.now
     (statuses_in a.headers.now a.tickets.now)
-    F.Field (λ b g. sending-undue b a.max-data a.due a.r ok undue)
+    F.Field (λ b g. sending-undue b a.max_data a.due a.r ok undue)
 
 pub returns-then-not-is_status : goal.returns-then-not-is_status
 returns-then-not-is_status c =
@@ -48,9 +48,9 @@ returns-then-not-is_status c =
     let no : is_status a.r ≡ false =
     unset _ _ c.is_status.ensures c.if-not-is_status.true in
     rw (c.place.ensures ∙ front a.out.now h size)
-    (sends-unstored a.c a.l a.ticket a.r a.max-data a.due a.exp_cmd_sn a.max_cmd_sn a.out.now
+    (sends-unstored a.c a.l a.ticket a.r a.max_data a.due a.exp_cmd_sn a.max_cmd_sn a.out.now
     (statuses_in a.headers.now a.tickets.now)
-    h (sym (o.ensures n)) size (omega arith) no (λ b g. sending-unstored b a.max-data a.due a.r ok due no))
+    h (sym (o.ensures n)) size (omega arith) no (λ b g. sending-unstored b a.max_data a.due a.r ok due no))
 
 pub returns-then-l-ge-STATUSES : goal.returns-then-l-ge-STATUSES
 returns-then-l-ge-STATUSES c =
@@ -58,17 +58,17 @@ returns-then-l-ge-STATUSES c =
     let ok = fits _ _ c.judge.ensures c.in-Fits.is in
     let due : a.due ≡ true = sure _ _ refl c.if-not-due.false in
     let yes = sure _ _ c.is_status.ensures c.if-not-is_status.false in
-    sends-refused a.c a.l a.ticket a.r a.max-data a.due a.exp_cmd_sn a.max_cmd_sn a.out.now
+    sends-refused a.c a.l a.ticket a.r a.max_data a.due a.exp_cmd_sn a.max_cmd_sn a.out.now
     (statuses_in a.headers.now a.tickets.now)
-    F.Full (λ b g. sending-full b a.max-data a.due a.r ok due yes (subst (λ (n : ℕ). 32 ≤ n) g.held c.if-l-ge-STATUSES.true))
+    F.Full (λ b g. sending-full b a.max_data a.due a.r ok due yes (subst (λ (n : ℕ). 32 ≤ n) g.held c.if-l-ge-STATUSES.true))
 
 pub returns-in-Refused : goal.returns-in-Refused
 returns-in-Refused c =
     let a = c.args in
     let no = rw c.in-Refused.is at c.judge.ensures in
-    sends-refused a.c a.l a.ticket a.r a.max-data a.due a.exp_cmd_sn a.max_cmd_sn a.out.now
+    sends-refused a.c a.l a.ticket a.r a.max_data a.due a.exp_cmd_sn a.max_cmd_sn a.out.now
     (statuses_in a.headers.now a.tickets.now)
-    c.in-Refused.f (λ b g. sending-refused b a.max-data a.due a.r c.in-Refused.f no)
+    c.in-Refused.f (λ b g. sending-refused b a.max_data a.due a.r c.in-Refused.f no)
 
 pub returns-else-l-ge-STATUSES : goal.returns-else-l-ge-STATUSES
 returns-else-l-ge-STATUSES c =
@@ -81,7 +81,7 @@ returns-else-l-ge-STATUSES c =
     let due : a.due ≡ true = sure _ _ refl c.if-not-due.false in
     let yes = sure _ _ c.is_status.ensures c.if-not-is_status.false in
     rw (c.place-in-Fits.ensures ∙ front a.out.now h size)
-    (sends-stored a.c a.l a.ticket a.r a.max-data a.due a.exp_cmd_sn a.max_cmd_sn a.out.now
+    (sends-stored a.c a.l a.ticket a.r a.max_data a.due a.exp_cmd_sn a.max_cmd_sn a.out.now
     (statuses_in a.headers.now a.tickets.now)
     h (sym (o.ensures n)) size (omega arith) _ _ yes c.keep-after.ensures
-    (λ b g. sending-stored b a.max-data a.due a.r ok due yes (subst (λ (k : ℕ). k < 32) g.held c.if-l-ge-STATUSES.false)))
+    (λ b g. sending-stored b a.max_data a.due a.r ok due yes (subst (λ (k : ℕ). k < 32) g.held c.if-l-ge-STATUSES.false)))

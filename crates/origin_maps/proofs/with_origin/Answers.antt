@@ -25,4 +25,4 @@ pub returns : goal.returns
 returns c =
     let a = c.args in
     rw (c.map_if.ensures, c.map_if-2.ensures, c.map_if-3.ensures, c.map_if-4.ensures)
-    (joined a.t1 a.conn a.map (search rules) c.requires)
+    (joined a.origins a.conn a.map (search rules) c.requires)

@@ -16,4 +16,4 @@ pub returns-in-3 : goal.returns-in-3
 returns-in-3 c = simp (c.in-3.is, and-true)
 
 pub returns-in_default : goal.returns-in_default
-returns-in_default c = rw (lt-leb c.args.snack-type 3 (omega arith))
+returns-in_default c = rw (lt-leb c.args.snack_type 3 (omega arith))

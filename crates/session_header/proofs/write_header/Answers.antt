@@ -12,7 +12,7 @@ unfolding written
 returns c r q =
     let l = c.args.out.now in
     let o = c.args.o in
-    let n : Numbers = record { stat_sn = c.args.stat-sn; exp_cmd_sn = c.exp_cmd_sn-exp_cmd_sn.result; max_cmd_sn = c.max_cmd_sn-max_cmd_sn.result } in
+    let n : Numbers = record { stat_sn = c.args.stat_sn; exp_cmd_sn = c.exp_cmd_sn-exp_cmd_sn.result; max_cmd_sn = c.max_cmd_sn-max_cmd_sn.result } in
     let h = own_bytes o n in
     let size = length-own o n in
     rw (c.place.ensures ∙ front l h size) (record {

@@ -46,7 +46,7 @@ returns-in-Refused c k ts es =
     let w = c.send.ensures in
     let stays = rw c.in-Refused.is at w.stays in
     rw (stays.0, stays.1) (refusing _ _ _ (outputs a.out.now) refl (λ b g.
-    let v = open_at (state a.s k (statuses_in a.statuses.now a.status-tickets.now)) b a.conn _ g i in
+    let v = open_at (state a.s k (statuses_in a.statuses.now a.status_tickets.now)) b a.conn _ g i in
     send_at b a.conn a.ticket a.r y a.out.now v.book _ c.if-out-lt-HEADER_BYTES.false v.near v.is
     ∙ send-refused b a.conn a.ticket a.r y a.out.now v.book _ (v.agrees.longest ∙ sym c.longest_of-longest.ensures)
     _ (c.is_due-due.ensures y refl refl) _ (c.completed-whole.ensures y refl) _
@@ -62,7 +62,7 @@ returns-in-NotStored c k ts es =
     let whole = c.completed-whole.ensures y refl in
     rw stays.1 (record {
       meets = λ b g.
-          let v = open_at (state a.s k (statuses_in a.statuses.now a.status-tickets.now)) b a.conn _ g i in
+          let v = open_at (state a.s k (statuses_in a.statuses.now a.status_tickets.now)) b a.conn _ g i in
           let m = w.meets v.book.ledger v.agrees.ledger in
           met _ _ _ _ _ b b
           (send_at b a.conn a.ticket a.r y a.out.now v.book _ c.if-out-lt-HEADER_BYTES.false v.near v.is
@@ -84,7 +84,7 @@ returns-in-Stored c k ts es =
     let whole = c.completed-whole.ensures y refl in
     record {
       meets = λ b g.
-          let v = open_at (state a.s k (statuses_in a.statuses.now a.status-tickets.now)) b a.conn _ g i in
+          let v = open_at (state a.s k (statuses_in a.statuses.now a.status_tickets.now)) b a.conn _ g i in
           let m = w.meets v.book.ledger v.agrees.ledger in
           met _ _ _ _ _ b _
           (send_at b a.conn a.ticket a.r y a.out.now v.book _ c.if-out-lt-HEADER_BYTES.false v.near v.is

@@ -12,10 +12,10 @@ pub loop-i-preserved : goal.loop-i-preserved
 loop-i-preserved c =
     let a = c.args in
     let l = c.loop-i in
-    paste-next 48 a.headers.now a.at a.t3 c.requires (search rules) l.headers l.i (omega arith) l.invariant
+    paste-next 48 a.headers.now a.at a.bytes c.requires (search rules) l.headers l.i (omega arith) l.invariant
 
 pub returns : goal.returns
 returns c =
     let a = c.args in
     let l = c.loop-i in
-    paste-last 48 a.headers.now a.at a.t3 l.headers l.i (omega arith) l.invariant
+    paste-last 48 a.headers.now a.at a.bytes l.headers l.i (omega arith) l.invariant

@@ -17,10 +17,6 @@ pub place-requires : goal.place-requires
 place-requires c = search rules
 
 -- src/rt:40:1
-pub shape_of-headers : goal.shape_of-headers
-shape_of-headers c = search rules
-
--- src/rt:40:1
 pub returns : goal.returns
 returns c =
     let a = c.args in

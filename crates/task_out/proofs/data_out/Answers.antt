@@ -13,13 +13,13 @@ returns-then-count-eq0 c =
     let a = c.args in
     let ts = a.tags.now in
     let es = a.ends.now in
-    data-out-none (record_of a.t ts es) a.initiator-task-tag a.p a.length (ap (open_of ts es a.t.first_open) c.if-count-eq0.true)
+    data-out-none (record_of a.t ts es) a.initiator_task_tag a.p a.length (ap (open_of ts es a.t.first_open) c.if-count-eq0.true)
 
 pub returns-then-not-data_out_ok : goal.returns-then-not-data_out_ok
 returns-then-not-data_out_ok c =
     let a = c.args in
     let ok = c.data_out_ok in
-    out-refused a.t a.tags.now a.ends.now a.initiator-task-tag a.p a.length (omega (arith, c.if-count-eq0.false))
+    out-refused a.t a.tags.now a.ends.now a.initiator_task_tag a.p a.length (omega (arith, c.if-count-eq0.false))
     ok.result (ok.ensures a.tags.now a.ends.now) c.if-not-data_out_ok.true
 
 pub overflow_add-result-else-p : goal.overflow_add-result-else-p
@@ -27,7 +27,7 @@ overflow_add-result-else-p c =
     let a = c.args in
     let ok = c.data_out_ok in
     record {
-      fits = out-left a.t a.tags.now a.ends.now a.initiator-task-tag a.p a.length
+      fits = out-left a.t a.tags.now a.ends.now a.initiator_task_tag a.p a.length
           (omega (arith, c.if-count-eq0.false))
           ok.result (ok.ensures a.tags.now a.ends.now) c.if-not-data_out_ok.false;
     }
@@ -36,12 +36,12 @@ pub returns-then-p : goal.returns-then-p
 returns-then-p c =
     let a = c.args in
     let ok = c.data_out_ok in
-    out-ends a.t a.tags.now a.ends.now a.initiator-task-tag a.p a.length (omega (arith, c.if-count-eq0.false))
+    out-ends a.t a.tags.now a.ends.now a.initiator_task_tag a.p a.length (omega (arith, c.if-count-eq0.false))
     ok.result (ok.ensures a.tags.now a.ends.now) c.if-not-data_out_ok.false c.if-p.true
 
 pub returns-else-p : goal.returns-else-p
 returns-else-p c =
     let a = c.args in
     let ok = c.data_out_ok in
-    out-goes-on a.t a.tags.now a.ends.now a.initiator-task-tag a.p a.length (omega (arith, c.if-count-eq0.false))
+    out-goes-on a.t a.tags.now a.ends.now a.initiator_task_tag a.p a.length (omega (arith, c.if-count-eq0.false))
     ok.result (ok.ensures a.tags.now a.ends.now) c.if-not-data_out_ok.false c.if-p.false

@@ -18,5 +18,5 @@ pub returns-else-n-beg_run-2 : goal.returns-else-n-beg_run-2
 unfolding data_acknowledged acknowledged_to
 returns-else-n-beg_run-2 c ts es =
     let a = c.args in
-    let none-new : a.beg-run - a.t.numbering.acknowledged ≡ 0 = omega arith in
+    let none-new : a.beg_run - a.t.numbering.acknowledged ≡ 0 = omega arith in
     rw (le-leb _ _ c.if-n-beg_run.false, le-ltb _ _ c.if-n-beg_run-2.false, none-new)

@@ -2,12 +2,6 @@ use Prim.Native.Nat.{◌-◌}
 use borrow.Author.Tests.{lt-ltb, le-ltb}
 use Rattle.key_values.proofs.value.in_range.Goals as goal
 
-pub enum_told-1 : goal.enum_told-1
-enum_told-1 c = c.in-Bad.keys1
-
-pub enum_known-n : goal.enum_known-n
-enum_known-n c = c.in-Value.keys2
-
 pub returns-then-x-low : goal.returns-then-x-low
 returns-then-x-low c = rw (c.in-Value.is, lt-ltb _ _ c.if-x-low.true)
 

@@ -1,21 +1,6 @@
 use Prim.Native.Nat.{◌-◌}
 use Rattle.key_values.proofs.value.reply_for.Goals as goal
 
-pub enum_told-1 : goal.enum_told-1
-enum_told-1 c = c.in-Least.keys1
-
-pub enum_told-in-Greatest : goal.enum_told-in-Greatest
-enum_told-in-Greatest c = c.in-Greatest.keys2
-
-pub enum_told-in-Or : goal.enum_told-in-Or
-enum_told-in-Or c = c.in-Or.keys3
-
-pub enum_told-in-And : goal.enum_told-in-And
-enum_told-in-And c = c.in-And.keys4
-
-pub enum_told-in-Declared : goal.enum_told-in-Declared
-enum_told-in-Declared c = c.in-Declared.keys5
-
 pub returns-in-Least : goal.returns-in-Least
 returns-in-Least c = rw c.in-Least.is
 

@@ -8,12 +8,6 @@ row_of-row-requires c = c.requires
 pub is_bool-requires : goal.is_bool-requires
 is_bool-requires c = c.requires
 
-pub enum_told-1 : goal.enum_told-1
-enum_told-1 c = c.in-Bad.keys1
-
-pub enum_known-n : goal.enum_known-n
-enum_known-n c = c.in-Good.keys2
-
 pub returns-in-Bad : goal.returns-in-Bad
 unfolding settling offered
 returns-in-Bad c =

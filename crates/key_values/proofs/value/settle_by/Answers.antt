@@ -11,21 +11,6 @@ bit : (t : Bool) → bool_byte t ≡ pick t 1 0
 bit true = refl
 bit false = refl
 
-pub enum_told-1 : goal.enum_told-1
-enum_told-1 c = c.in-Least.keys1
-
-pub enum_told-in-Greatest : goal.enum_told-in-Greatest
-enum_told-in-Greatest c = c.in-Greatest.keys2
-
-pub enum_told-in-Or : goal.enum_told-in-Or
-enum_told-in-Or c = c.in-Or.keys3
-
-pub enum_told-in-And : goal.enum_told-in-And
-enum_told-in-And c = c.in-And.keys4
-
-pub enum_told-in-Declared : goal.enum_told-in-Declared
-enum_told-in-Declared c = c.in-Declared.keys5
-
 pub returns-then-a-b : goal.returns-then-a-b
 returns-then-a-b c = rw (c.in-Least.is, lt-ltb _ _ c.if-a-b.true)
 

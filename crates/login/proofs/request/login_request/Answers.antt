@@ -9,14 +9,8 @@ use native.Mathlib.Omega.{arith}
 use lib.ListN.{length}
 use Rattle.login.proofs.request.login_request.Goals as goal
 
-pub enum_known-f : goal.enum_known-f
-enum_known-f c = c.in-Refused.keys1
-
 pub returns-in-Refused : goal.returns-in-Refused
 returns-in-Refused c = let a = c.args in found-refused a.l a.pdu.now a.live a.new a.ours.now a.gather.now a.text.now _ c.find_login-f.ensures _ c.in-Refused.is
-
-pub enum_known-f-in-Login-1 : goal.enum_known-f-in-Login-1
-enum_known-f-in-Login-1 c = c.in-Login.keys2
 
 pub overflow_add-end : goal.overflow_add-end
 overflow_add-end c = omega (arith, inside c, c.well-formed.1.0)

@@ -14,7 +14,7 @@ pub returns-then-not-p : goal.returns-then-not-p
 returns-then-not-p c =
     let s = c.args.s.now in
     let p = c.cut_pair-p in
-    let n : p.result.ok ≡ false = c.if-not-p.true in
+    let n : p.result.ok ≡ false = not-true _ c.if-not-p.true in
     let w : whole_first s ≡ false = sym p.ensures.right ∙ n in
     record { right = n ∙ sym (good-first s ∙ rw w (&&-false (good_name (name_in s)))); name = p.ensures.name; value = p.ensures.value }
 
@@ -22,13 +22,13 @@ pub slice_bounds-name_good-end : goal.slice_bounds-name_good-end
 slice_bounds-name_good-end c =
     let s = c.args.s.now in
     let p = c.cut_pair-p in
-    let w : whole_first s ≡ true = sym p.ensures.right ∙ c.if-not-p.false in
+    let w : whole_first s ≡ true = sym p.ensures.right ∙ not-false _ c.if-not-p.false in
     sym (length-take-le _ _ (omega (arith, p.ensures.name, whole-inside s w)))
 
 pub returns : goal.returns
 returns c =
     let s = c.args.s.now in
     let p = c.cut_pair-p in
-    let w : whole_first s ≡ true = sym p.ensures.right ∙ c.if-not-p.false in
+    let w : whole_first s ≡ true = sym p.ensures.right ∙ not-false _ c.if-not-p.false in
     let n : c.name_good-named.result ≡ good_name (name_in s) = c.name_good-named.ensures ∙ ap good_name (cut-name s p.ensures.name) in
     record { right = n ∙ sym (good-first s ∙ rw w (&&-true (good_name (name_in s)))); name = p.ensures.name; value = p.ensures.value }

@@ -49,7 +49,7 @@ pub returns-then-not-p : goal.returns-then-not-p
 returns-then-not-p c =
     let l = c.loop-at in
     let s = c.args.s.now in
-    let b : good_first (drop l.at s) ≡ false = rw rest_part at (sym c.first_pair-p.ensures.right ∙ c.if-not-p.true) in
+    let b : good_first (drop l.at s) ≡ false = rw rest_part at (sym c.first_pair-p.ensures.right ∙ not-true _ c.if-not-p.true) in
     sym (formed-bad s l.at (omega arith) (64 - l.n) b) ∙ l.invariant.2
 
 pub overflow_add-at : goal.overflow_add-at
@@ -69,7 +69,7 @@ loop-at-preserved c =
     let p = c.first_pair-p in
     let l = c.loop-at in
     let s = c.args.s.now in
-    let g : good_first (drop l.at s) ≡ true = rw rest_part at (sym p.ensures.right ∙ c.if-not-p.false) in
+    let g : good_first (drop l.at s) ≡ true = rw rest_part at (sym p.ensures.right ∙ not-false _ c.if-not-p.false) in
     let w = whole-ends (drop l.at s) (good-whole (drop l.at s) g) in
     let e : p.result.end ≡ length (name_in (drop l.at s)) + 1 + length (value_in (drop l.at s)) = (rw rest_part at p.ensures.value) ∙ w in
     let n : 64 - l.n ≡ suc (64 - (l.n + 1)) = omega arith in

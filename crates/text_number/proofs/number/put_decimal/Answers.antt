@@ -66,8 +66,5 @@ slice_bounds-append-end c = simp length-set (omega arith)
 pub append-requires : goal.append-requires
 append-requires c = rw (whole c) (omega (arith, decimal-length 10 c.args.n))
 
-pub shape_of-out : goal.shape_of-out
-shape_of-out c = c.append.auto.0
-
 pub returns : goal.returns
 returns c = rw (whole c) at c.append.ensures
