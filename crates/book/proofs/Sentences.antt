@@ -488,6 +488,9 @@ module _ (g : Given) (ds : List WindowEffect) (b : Book) (i : WindowInv g ds b.w
       held_at : (x : Place) → get_or w.held (W.distance w n) empty ≡ x → held g ds n ≡ is_held x
       held_at x q = held-is g ds w n i ∙ ap is_held q
 
+      held-empty : get_or w.held (W.distance w n) empty ≡ empty → held g ds n ≡ false
+      held-empty q = unfold is_held in (held_at empty q)
+
       in_window : W.distance w n < w.share → among_next g ds n ≡ true
       in_window l = unfold among_next in (rw (distance_is g ds w n i, ← i.share) (lt-ltb (W.distance w n) w.share l))
 
@@ -510,7 +513,7 @@ module _ (g : Given) (ds : List WindowEffect) (b : Book) (i : WindowInv g ds b.w
       far l u p = go u p
         where
           free : held g ds n ≡ false
-          free = unfold is_held in (held_at empty (get_or-eq_default w.held empty {n = W.distance w n} (omega (arith, i.size, i.share))))
+          free = held-empty (get_or-eq_default w.held empty {n = W.distance w n} (omega (arith, i.size, i.share)))
 
           go : (u : Bool) → among_last (2 ^ 31) ds n ≡ u → Offers g ds n (from_window (pick u W.passed W.beyond))
           go true p = offers-passed g ds n (out-of-window l) free p

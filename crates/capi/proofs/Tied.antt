@@ -83,8 +83,8 @@ pub record ByOffer (d : Done) : Type 1 where
   pub learnt : offer-r.Learnt κs a r s
   pub statuses_left : Statuses
   pub is : d ≡ done (calls (offer a.1.1.1.1.0 a.1.1.1.1.1.0 a.1.1.1.1.1.1.0.now))
-      (session_words a.0.now a.1.0.now (commands a.1.1.0.now a.1.1.1.0.now) statuses-left) (packed r) no_outputs
-      (session_words s.0.now s.1.0.now (commands s.1.1.0.now s.1.1.1.0.now) statuses-left)
+      (session_words a.0.now a.1.0.now (commands a.1.1.0.now a.1.1.1.0.now) statuses_left) (packed r) no_outputs
+      (session_words s.0.now s.1.0.now (commands s.1.1.0.now s.1.1.1.0.now) statuses_left)
 
 -- A call of `drawbevel_core_take`: a are its arguments, r its result, s its parameters at exit.
 pub record ByTake (d : Done) : Type 1 where
@@ -95,9 +95,9 @@ pub record ByTake (d : Done) : Type 1 where
   pub learnt : take-r.Learnt κs a r s
   pub statuses_left : Statuses
   pub is : d ≡ done (calls (take (outputs a.1.1.1.1.0.now)))
-      (session_words a.0.now a.1.0.now (commands a.1.1.0.now a.1.1.1.0.now) statuses-left)
+      (session_words a.0.now a.1.0.now (commands a.1.1.0.now a.1.1.1.0.now) statuses_left)
       s.1.1.1.1.1.0.now (outputs s.1.1.1.1.0.now)
-      (session_words s.0.now s.1.0.now (commands a.1.1.0.now a.1.1.1.0.now) statuses-left)
+      (session_words s.0.now s.1.0.now (commands a.1.1.0.now a.1.1.1.0.now) statuses_left)
 
 -- A call of `drawbevel_core_logout`: a are its arguments, r its result, s its parameters at exit.
 pub record ByLogout (d : Done) : Type 1 where
@@ -109,8 +109,8 @@ pub record ByLogout (d : Done) : Type 1 where
   pub commands_left : Commands
   pub statuses_left : Statuses
   pub is : d ≡ done (calls (logout a.1.1.0 a.1.1.1.0))
-      (session_words a.0.now a.1.0.now commands-left statuses-left) s.1.1.1.1.0.now no_outputs
-      (session_words s.0.now s.1.0.now commands-left statuses-left)
+      (session_words a.0.now a.1.0.now commands_left statuses_left) s.1.1.1.1.0.now no_outputs
+      (session_words s.0.now s.1.0.now commands_left statuses_left)
 
 -- A call of `drawbevel_core_open`: a are its arguments, r its result, s its parameters at exit.
 pub record ByOpen (d : Done) : Type 1 where
@@ -122,8 +122,8 @@ pub record ByOpen (d : Done) : Type 1 where
   pub commands_left : Commands
   pub statuses_left : Statuses
   pub is : d ≡ done (calls (opening a.1.1.0 (opening_of a.1.1.1.0)))
-      (session_words a.0.now a.1.0.now commands-left statuses-left) (packed r) no_outputs
-      (session_words s.0.now s.1.0.now commands-left statuses-left)
+      (session_words a.0.now a.1.0.now commands_left statuses_left) (packed r) no_outputs
+      (session_words s.0.now s.1.0.now commands_left statuses_left)
 
 -- A call of `drawbevel_core_send`: a are its arguments, r its result, s its parameters at exit. tags and ends are the open R2Ts of the record, which it
 -- isn't lent.
@@ -138,9 +138,9 @@ pub record BySend (d : Done) : Type 1 where
   pub ends : List ℕ
   pub is : d ≡ done (sends (response_of a.1.1.1.1.1.1.1.1.0.now) a.1.1.1.1.1.1.0 a.1.1.1.1.1.1.1.0
       (record_in (task_words a.1.1.1.1.0.now a.1.1.1.1.1.0.now tags ends)) (outputs a.1.1.1.1.1.1.1.1.1.0.now))
-      (session_words a.0.now a.1.0.now commands-left (statuses_in a.1.1.0.now a.1.1.1.0.now))
+      (session_words a.0.now a.1.0.now commands_left (statuses_in a.1.1.0.now a.1.1.1.0.now))
       (packed r) (outputs s.1.1.1.1.1.1.1.1.1.0.now)
-      (session_words s.0.now s.1.0.now commands-left (statuses_in s.1.1.0.now s.1.1.1.0.now))
+      (session_words s.0.now s.1.0.now commands_left (statuses_in s.1.1.0.now s.1.1.1.0.now))
 
 -- A call of `drawbevel_core_acknowledge`: a are its arguments, r its result, s its parameters at exit.
 pub record ByAcknowledge (d : Done) : Type 1 where
@@ -152,8 +152,8 @@ pub record ByAcknowledge (d : Done) : Type 1 where
   pub commands_left : Commands
   pub statuses_left : Statuses
   pub is : d ≡ done (calls (acknowledge a.1.1.0 a.1.1.1.0))
-      (session_words a.0.now a.1.0.now commands-left statuses-left) (packed r) no_outputs
-      (session_words s.0.now s.1.0.now commands-left statuses-left)
+      (session_words a.0.now a.1.0.now commands_left statuses_left) (packed r) no_outputs
+      (session_words s.0.now s.1.0.now commands_left statuses_left)
 
 -- A call of `drawbevel_core_snack`: a are its arguments, r its result, s its parameters at exit.
 pub record BySnack (d : Done) : Type 1 where
@@ -165,8 +165,8 @@ pub record BySnack (d : Done) : Type 1 where
   pub commands_left : Commands
   pub statuses_left : Statuses
   pub is : d ≡ done (calls (snack a.1.1.0 a.1.1.1.0.now))
-      (session_words a.0.now a.1.0.now commands-left statuses-left) s.1.1.1.1.0.now no_outputs
-      (session_words a.0.now a.1.0.now commands-left statuses-left)
+      (session_words a.0.now a.1.0.now commands_left statuses_left) s.1.1.1.1.0.now no_outputs
+      (session_words a.0.now a.1.0.now commands_left statuses_left)
 
 -- A call of `drawbevel_core_resend`: a are its arguments, r its result, s its parameters at exit.
 pub record ByResend (d : Done) : Type 1 where
@@ -180,9 +180,9 @@ pub record ByResend (d : Done) : Type 1 where
   pub ends : List ℕ
   pub is : d ≡ done (calls (resend a.1.1.1.1.1.1.0 a.1.1.1.1.1.1.1.0
       (record_in (task_words a.1.1.1.1.0.now a.1.1.1.1.1.0.now tags ends)) (outputs a.1.1.1.1.1.1.1.1.0.now)))
-      (session_words a.0.now a.1.0.now commands-left (statuses_in a.1.1.0.now a.1.1.1.0.now))
+      (session_words a.0.now a.1.0.now commands_left (statuses_in a.1.1.0.now a.1.1.1.0.now))
       (packed r) (outputs s.1.1.1.1.1.1.1.1.0.now)
-      (session_words a.0.now a.1.0.now commands-left (statuses_in a.1.1.0.now a.1.1.1.0.now))
+      (session_words a.0.now a.1.0.now commands_left (statuses_in a.1.1.0.now a.1.1.1.0.now))
 
 -- A call of `drawbevel_core_data_in`: a are its arguments, r its result, s its parameters at exit.
 pub record ByDataIn (d : Done) : Type 1 where
@@ -197,8 +197,8 @@ pub record ByDataIn (d : Done) : Type 1 where
   pub ends : List ℕ
   pub is : d ≡ done (calls (transfer a.1.1.1.1.0 (record_in (task_words a.1.1.0.now a.1.1.1.0.now tags ends))
       (data_in a.1.1.1.1.1.0 a.1.1.1.1.1.1.0 a.1.1.1.1.1.1.1.0 (outputs a.1.1.1.1.1.1.1.1.0.now))))
-      (session_words a.0.now a.1.0.now commands-left statuses-left) (packed r) (outputs s.1.1.1.1.1.1.1.1.0.now)
-      (session_words a.0.now a.1.0.now commands-left statuses-left)
+      (session_words a.0.now a.1.0.now commands_left statuses_left) (packed r) (outputs s.1.1.1.1.1.1.1.1.0.now)
+      (session_words a.0.now a.1.0.now commands_left statuses_left)
 
 -- A call of `drawbevel_core_r2t`: a are its arguments, r its result, s its parameters at exit.
 pub record ByR2T (d : Done) : Type 1 where
@@ -212,8 +212,8 @@ pub record ByR2T (d : Done) : Type 1 where
   pub is : d ≡ done (calls (transfer a.1.1.1.1.1.1.0
       (record_in (task_words a.1.1.0.now a.1.1.1.0.now a.1.1.1.1.0.now a.1.1.1.1.1.0.now))
       (r2t a.1.1.1.1.1.1.1.0 a.1.1.1.1.1.1.1.1.0 (outputs a.1.1.1.1.1.1.1.1.1.0.now))))
-      (session_words a.0.now a.1.0.now commands-left statuses-left) (packed r) (outputs s.1.1.1.1.1.1.1.1.1.0.now)
-      (session_words a.0.now a.1.0.now commands-left statuses-left)
+      (session_words a.0.now a.1.0.now commands_left statuses_left) (packed r) (outputs s.1.1.1.1.1.1.1.1.1.0.now)
+      (session_words a.0.now a.1.0.now commands_left statuses_left)
 
 -- A call of `drawbevel_core_data_out`: a are its arguments, r its result, s its parameters at exit.
 pub record ByDataOut (d : Done) : Type 1 where
@@ -227,8 +227,8 @@ pub record ByDataOut (d : Done) : Type 1 where
   pub is : d ≡ done (calls (transfer a.1.1.0
       (record_in (task_words a.1.1.1.1.0.now a.1.1.1.1.1.0.now a.1.1.1.1.1.1.0.now a.1.1.1.1.1.1.1.0.now))
       (data_out a.1.1.1.0.now)))
-      (session_words a.0.now a.1.0.now commands-left statuses-left) s.1.1.1.1.1.1.1.1.0.now no_outputs
-      (session_words a.0.now a.1.0.now commands-left statuses-left)
+      (session_words a.0.now a.1.0.now commands_left statuses_left) s.1.1.1.1.1.1.1.1.0.now no_outputs
+      (session_words a.0.now a.1.0.now commands_left statuses_left)
 
 -- A call of `drawbevel_core_data_snack`: a are its arguments, r its result, s its parameters at exit.
 pub record ByDataSnack (d : Done) : Type 1 where
@@ -243,8 +243,8 @@ pub record ByDataSnack (d : Done) : Type 1 where
   pub ends : List ℕ
   pub is : d ≡ done (calls (transfer a.1.1.0 (record_in (task_words a.1.1.1.1.0.now a.1.1.1.1.1.0.now tags ends))
       (data_snack a.1.1.1.1.1.1.0 a.1.1.1.0.now)))
-      (session_words a.0.now a.1.0.now commands-left statuses-left) s.1.1.1.1.1.1.1.0.now no_outputs
-      (session_words a.0.now a.1.0.now commands-left statuses-left)
+      (session_words a.0.now a.1.0.now commands_left statuses_left) s.1.1.1.1.1.1.1.0.now no_outputs
+      (session_words a.0.now a.1.0.now commands_left statuses_left)
 
 -- A call of `drawbevel_core_window`: a are its arguments, r its result, s its parameters at exit.
 pub record ByNumbers (d : Done) : Type 1 where
@@ -256,8 +256,8 @@ pub record ByNumbers (d : Done) : Type 1 where
   pub commands_left : Commands
   pub statuses_left : Statuses
   pub is : d ≡ done (calls (ask window_numbers))
-      (session_words a.0.now a.1.0.now commands-left statuses-left) s.1.1.0.now no_outputs
-      (session_words a.0.now a.1.0.now commands-left statuses-left)
+      (session_words a.0.now a.1.0.now commands_left statuses_left) s.1.1.0.now no_outputs
+      (session_words a.0.now a.1.0.now commands_left statuses_left)
 
 -- A call of `drawbevel_core_next`: a are its arguments, r its result, s its parameters at exit.
 pub record ByNext (d : Done) : Type 1 where
@@ -269,8 +269,8 @@ pub record ByNext (d : Done) : Type 1 where
   pub commands_left : Commands
   pub statuses_left : Statuses
   pub is : d ≡ done (calls (ask (next_stat_sn a.1.1.0)))
-      (session_words a.0.now a.1.0.now commands-left statuses-left) (packed r) no_outputs
-      (session_words a.0.now a.1.0.now commands-left statuses-left)
+      (session_words a.0.now a.1.0.now commands_left statuses_left) (packed r) no_outputs
+      (session_words a.0.now a.1.0.now commands_left statuses_left)
 
 -- A call of `drawbevel_core_holder`: a are its arguments, r its result, s its parameters at exit. Of the commands it is lent the tickets alone.
 pub record ByHolder (d : Done) : Type 1 where
@@ -282,8 +282,8 @@ pub record ByHolder (d : Done) : Type 1 where
   pub headers_left : List ℕ
   pub statuses_left : Statuses
   pub is : d ≡ done (calls (ask (holder a.1.1.1.0)))
-      (session_words a.0.now a.1.0.now (commands headers-left a.1.1.0.now) statuses-left) s.1.1.1.1.0.now no_outputs
-      (session_words a.0.now a.1.0.now (commands headers-left a.1.1.0.now) statuses-left)
+      (session_words a.0.now a.1.0.now (commands headers_left a.1.1.0.now) statuses_left) s.1.1.1.1.0.now no_outputs
+      (session_words a.0.now a.1.0.now (commands headers_left a.1.1.0.now) statuses_left)
 
 -- A call of `drawbevel_core_length`: a are its arguments, r its result, s its parameters at exit. It is given nothing of the session.
 pub record ByLength (d : Done) : Type 1 where

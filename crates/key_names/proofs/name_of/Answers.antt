@@ -129,6 +129,6 @@ pub returns-in_default : goal.returns-in_default
 unfolding spelt name_at known candidates_of candidates shares middle_at be_at
 returns-in_default c =
     let k = c.args.k in
-    let past : 27 ≤ k = beyond _ k 27 c.in_default-own.rest in
+    let past : 27 ≤ k = beyond _ k 27 c.in_default.in_default-own.rest in
     let e : k ≡ 27 = omega (arith, past, c.requires) in
     rw e

@@ -8,5 +8,5 @@ returns c k ss b g =
     let o = c.wrapping_sub_u32-oldest in
     let r = c.wrapping_sub_u32 in
     let a = c.args in
-    place_is b a.number o.result r.result a.l.next a.l.held g.next g.held g.few g.fits (omega arith) o.ensures
-    r.ensures (omega arith)
+    place_is b a.number o.result r.result a.l.next a.l.held g.next g.held g.few g.fits (omega arith) o.ensures.value
+    r.ensures.value (omega arith)

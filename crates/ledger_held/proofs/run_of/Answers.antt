@@ -11,7 +11,7 @@ returns-then-beg_run-run_length c k ss b g =
     let a = c.args in
     let o = c.wrapping_sub_u32-oldest in
     rw c.if-beg_run-run_length.true (ap₂ run
-    (oldest-is b o.result a.l.next a.l.held g.next g.held g.few g.fits (omega arith) o.ensures) g.held)
+    (oldest-is b o.result a.l.next a.l.held g.next g.held g.few g.fits (omega arith) o.ensures.value) g.held)
 
 pub returns-then-held-place : goal.returns-then-held-place
 returns-then-held-place c k ss b g =

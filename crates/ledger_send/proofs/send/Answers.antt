@@ -19,19 +19,11 @@ use Rattle.ledger_send.proofs.send.Goals as goal
 fits : (n : ℕ) (j : Judgement) → judgement_number j ≡ n → j ≡ J.Fits → 0 ≡ n
 fits n j e q = ap judgement_number (sym q) ∙ e
 
-unset : (x s : Bool) → x ≡ s → not x ≡ true → s ≡ false
-unset true s e t = let z : ◌≡◌ {A = ℕ} 0 1 = cc in absurd (omega arith)
-unset false s e t = sym e
-
-sure : (x s : Bool) → x ≡ s → not x ≡ false → s ≡ true
-sure true s e t = sym e
-sure false s e t = let z : ◌≡◌ {A = ℕ} 0 1 = cc in absurd (omega arith)
-
 pub returns-then-not-due : goal.returns-then-not-due
 returns-then-not-due c =
     let a = c.args in
     let ok = fits _ _ c.judge.ensures c.in-Fits.is in
-    let undue : a.due ≡ false = unset _ _ refl c.if-not-due.true in
+    let undue : a.due ≡ false = c.if-not-due.true in
     sends-refused a.c a.l a.ticket a.r a.max_data a.due a.exp_cmd_sn a.max_cmd_sn a.out.now
     (statuses_in a.headers.now a.tickets.now)
     F.Field (λ b g. sending-undue b a.max_data a.due a.r ok undue)
@@ -44,9 +36,9 @@ returns-then-not-is_status c =
     let h = own_bytes o.result n in
     let size = length-own o.result n in
     let ok = fits _ _ c.judge.ensures c.in-Fits.is in
-    let due : a.due ≡ true = sure _ _ refl c.if-not-due.false in
+    let due : a.due ≡ true = c.if-not-due.false in
     let no : is_status a.r ≡ false =
-    unset _ _ c.is_status.ensures c.if-not-is_status.true in
+    sym c.is_status.ensures ∙ c.if-not-is_status.true in
     rw (c.place.ensures ∙ front a.out.now h size)
     (sends-unstored a.c a.l a.ticket a.r a.max_data a.due a.exp_cmd_sn a.max_cmd_sn a.out.now
     (statuses_in a.headers.now a.tickets.now)
@@ -56,8 +48,8 @@ pub returns-then-l-ge-STATUSES : goal.returns-then-l-ge-STATUSES
 returns-then-l-ge-STATUSES c =
     let a = c.args in
     let ok = fits _ _ c.judge.ensures c.in-Fits.is in
-    let due : a.due ≡ true = sure _ _ refl c.if-not-due.false in
-    let yes = sure _ _ c.is_status.ensures c.if-not-is_status.false in
+    let due : a.due ≡ true = c.if-not-due.false in
+    let yes = sym c.is_status.ensures ∙ c.if-not-is_status.false in
     sends-refused a.c a.l a.ticket a.r a.max_data a.due a.exp_cmd_sn a.max_cmd_sn a.out.now
     (statuses_in a.headers.now a.tickets.now)
     F.Full (λ b g. sending-full b a.max_data a.due a.r ok due yes (subst (λ (n : ℕ). 32 ≤ n) g.held c.if-l-ge-STATUSES.true))
@@ -78,8 +70,8 @@ returns-else-l-ge-STATUSES c =
     let h = own_bytes o.result n in
     let size = length-own o.result n in
     let ok = fits _ _ c.judge.ensures c.in-Fits.is in
-    let due : a.due ≡ true = sure _ _ refl c.if-not-due.false in
-    let yes = sure _ _ c.is_status.ensures c.if-not-is_status.false in
+    let due : a.due ≡ true = c.if-not-due.false in
+    let yes = sym c.is_status.ensures ∙ c.if-not-is_status.false in
     rw (c.place-in-Fits.ensures ∙ front a.out.now h size)
     (sends-stored a.c a.l a.ticket a.r a.max_data a.due a.exp_cmd_sn a.max_cmd_sn a.out.now
     (statuses_in a.headers.now a.tickets.now)

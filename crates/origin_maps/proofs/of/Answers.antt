@@ -19,7 +19,7 @@ returns-in-3 c = rw c.in-3.is
 
 pub returns-in_default : goal.returns-in_default
 returns-in_default c =
-    let n = c.in_default-own.rest in
+    let n = c.in_default.in_default-own.rest in
     let a = c.args in
     let long : length a.origins ≡ 4 = search rules in
     sym (get_or-eq_default a.origins 0 {n = a.conn} (omega (arith, n.0.0.0.1, n.0.0.1, n.0.1, n.1)))

@@ -22,4 +22,4 @@ pub returns-in-3 : goal.returns-in-3
 returns-in-3 c = rw c.in-3.is (ap (λ (l : List ℕ). set l 3 0) (four 0 c.args.origins (search rules)))
 
 pub returns-in_default : goal.returns-in_default
-returns-in_default c = let n = c.in_default-own.rest in rw (le-ltb c.args.conn 4 (omega (arith, n.0.0.0.1, n.0.0.1, n.0.1, n.1)))
+returns-in_default c = let n = c.in_default.in_default-own.rest in rw (le-ltb c.args.conn 4 (omega (arith, n.0.0.0.1, n.0.0.1, n.0.1, n.1)))

@@ -67,7 +67,7 @@ pub returns-in_default : goal.returns-in_default
 returns-in_default c =
     let f = c.refusal_before_field-f.ensures in
     let z = c.if-f-ne0.false in
-    let n = c.in_default-own.rest in
+    let n = c.in_default.in_default-own.rest in
     kind-decides _ _ _ _ f z
     (known-last _ (known_past _ _ f z) n.0.0.0.0.0.1 n.0.0.0.0.1 n.0.0.0.1 n.0.0.1 n.0.1 n.1)
     (c.snack.ensures _)

@@ -29,7 +29,7 @@ returns-in-6 c = rw (c.in-6.is, c.logout.ensures)
 pub returns-in_default : goal.returns-in_default
 unfolding request_of
 returns-in_default c =
-    let n = c.in_default-own.rest in
+    let n = c.in_default.in_default-own.rest in
     let e = n.0.0.0 in
     simp (
       ne_eqb _ _ e.0.0.1,

@@ -18,5 +18,5 @@ returns-in-4 c = rw c.in-4.is
 pub returns-in_default : goal.returns-in_default
 unfolding refusal_numbered
 returns-in_default c =
-    let n = c.in_default-own.rest in
+    let n = c.in_default.in_default-own.rest in
     rw (ne_eqb _ _ n.0.0.1, ne_eqb _ _ n.0.1, ne_eqb _ _ n.1)

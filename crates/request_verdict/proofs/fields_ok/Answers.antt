@@ -22,7 +22,7 @@ returns-in-6 c = rw c.in-6.is (c.logout_ok.ensures _)
 
 pub returns-in_default : goal.returns-in_default
 returns-in_default c =
-    let n = c.in_default-own.rest in
+    let n = c.in_default.in_default-own.rest in
     rw
     (known-last _ c.requires.1
     n.0.0.0.0.0.1 n.0.0.0.0.1 n.0.0.0.1 n.0.0.1 n.0.1 n.1)

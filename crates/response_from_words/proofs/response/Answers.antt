@@ -37,7 +37,7 @@ returns-in-63 c = rw (c.in-63.is, c.reject.ensures)
 pub returns-in_default : goal.returns-in_default
 unfolding response_of
 returns-in_default c =
-    let n = c.in_default-own.rest in simp (
+    let n = c.in_default.in_default-own.rest in simp (
       ne_eqb _ _ n.0.0.0.0.0.0.0.1,
       ne_eqb _ _ n.0.0.0.0.0.0.1,
       ne_eqb _ _ n.0.0.0.0.0.1,

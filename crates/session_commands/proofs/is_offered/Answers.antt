@@ -21,4 +21,4 @@ unfolding request_of
 returns-in-6 c = rw (c.in-6.is, and-true) (c.logout_ok.ensures _)
 
 pub returns-in_default : goal.returns-in_default
-returns-in_default c = let n = c.in_default-own.rest in not-offered _ c.args.s.now _ n.0.0.0.1 n.0.0.1 n.0.1 n.1
+returns-in_default c = let n = c.in_default.in_default-own.rest in not-offered _ c.args.s.now _ n.0.0.0.1 n.0.0.1 n.0.1 n.1

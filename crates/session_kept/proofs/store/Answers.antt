@@ -11,7 +11,7 @@ unfolding session_numbers conn_at
 returns c =
     let s = c.args.s in
     let o : length s.window.origins ≡ 4 = search rules in
-    let k : length s.conns ≡ 4 = sym (length-map s.conns _) ∙ c.well-formed.1.1.0.1.1.1.1.0.1.0.1 in
+    let k : length s.conns ≡ 4 = search rules in
     let w0 = c.open_word.ensures in
     let w1 = c.open_word-2.ensures in
     let w2 = c.open_word-3.ensures in

@@ -30,4 +30,4 @@ unfolding conn_at
 returns-in-3 c = rw c.in-3.is (by-conn c.args.s 3 c.by_conn-in-3.result (omega arith) c.by_conn-in-3.ensures)
 
 pub returns-in_default : goal.returns-in_default
-returns-in_default c = let n = c.in_default-own.rest in omega (arith, n.0.0.0.1, n.0.0.1, n.0.1, n.1)
+returns-in_default c = let n = c.in_default.in_default-own.rest in omega (arith, n.0.0.0.1, n.0.0.1, n.0.1, n.1)

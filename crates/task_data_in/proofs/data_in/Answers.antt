@@ -13,8 +13,7 @@ data_in_header-header-requires c = (data-in-good _ _ _ (sym (c.data_in_ok.ensure
 pub after_data_in-sequence-requires : goal.after_data_in-sequence-requires
 after_data_in-sequence-requires c =
     let good = data-in-good _ _ _ (sym (c.data_in_ok.ensures [] []) ∙ c.if-data_in_ok.true) in
-    let limits = c.well-formed.0.1.1 in
-    (good.end, omega (arith, limits))
+    (good.end, omega arith)
 
 pub overflow_add-result : goal.overflow_add-result
 overflow_add-result c =

@@ -8,6 +8,6 @@ use Rattle.window.proofs.exp_cmd_sn.Goals as goal
 pub returns : goal.returns
 unfolding exp_cmd_sn_of
 returns c cs b g =
-    c.wrapping_add_u32.ensures
+    c.wrapping_add_u32.ensures.value
     ∙ ap₂ (λ (x y : ℕ). (x + y) % 2 ^ 32) g.next
     (counts b.held c.args.w.held c.gapless-gapless.result (all-places _ b g) g.held c.gapless-gapless.ensures)

@@ -5,4 +5,4 @@ use Rattle.window.proofs.max_cmd_sn.Goals as goal
 
 pub returns : goal.returns
 unfolding max_cmd_sn_of
-returns c cs b g = c.wrapping_add_u32.ensures ∙ ap₂ (λ (x s : ℕ). (x + (s - 1)) % 2 ^ 32) g.next (sym g.share)
+returns c cs b g = c.wrapping_add_u32.ensures.value ∙ ap₂ (λ (x s : ℕ). (x + (s - 1)) % 2 ^ 32) g.next (sym g.share)

@@ -5,4 +5,4 @@ use Rattle.window.proofs.slot_of.Goals as goal
 
 pub returns : goal.returns
 unfolding slot_of
-returns c = (omega (arith, c.wrapping_add_u32-number.ensures), omega arith)
+returns c = (omega (arith, c.wrapping_add_u32-number.ensures.value), omega arith)

@@ -26,7 +26,7 @@ returns-then-d-w c =
       meets = λ b g.
           met _ _ _ _ _ b b
           (offer-at b a.number a.ticket a.conn (ListN.take 48 a.pdu.now) sub.result
-          (distance_is b a.number sub.result next g.next sub.ensures (omega arith))
+          (distance_is b a.number sub.result next g.next sub.ensures.value (omega arith))
           ∙ step-passed b sub.result _ (omega (arith, g.share)) (omega (arith, g.handed)))
           g;
       stays = refl;
@@ -43,7 +43,7 @@ returns-then-d-ge-PLACES c =
       meets = λ b g.
           met _ _ _ _ _ b b
           (offer-at b a.number a.ticket a.conn (ListN.take 48 a.pdu.now) sub.result
-          (distance_is b a.number sub.result next g.next sub.ensures (omega arith))
+          (distance_is b a.number sub.result next g.next sub.ensures.value (omega arith))
           ∙ step-beyond b sub.result _ (omega (arith, g.share)) (omega (arith, g.handed)))
           g;
       stays = refl;
@@ -60,7 +60,7 @@ returns-then-bit-eq1 c =
       meets = λ b g.
           met _ _ _ _ _ b b
           (offer-at b a.number a.ticket a.conn (ListN.take 48 a.pdu.now) sub.result
-          (distance_is b a.number sub.result next g.next sub.ensures (omega arith))
+          (distance_is b a.number sub.result next g.next sub.ensures.value (omega arith))
           ∙ step-duplicate b sub.result _ (omega (arith, g.share))
           (place-bit a.w (commands a.headers.now a.tickets.now) b sub.result 1 g (sym c.if-bit-eq1.true ∙ c.bit.ensures)))
           g;
@@ -89,11 +89,11 @@ returns c =
           (place-bit a.w cs b d bit.result g bit.ensures
           ∙ zero_bit a.w.held d bit.result bit.ensures c.if-bit-eq1.false) in
           rw (put, at) (met _ _ _ _ _ b _
-          (offer-at b a.number a.ticket a.conn header d (distance_is b a.number d a.w.next g.next sub.ensures (omega arith))
+          (offer-at b a.number a.ticket a.conn header d (distance_is b a.number d a.w.next g.next sub.ensures.value (omega arith))
           ∙ step_kept b d _ low none)
           (keep-agrees a.w _ cs b d a.ticket a.conn header g low none (length-take-le 48 a.pdu.now (omega arith)) (omega arith)
           c.entered-after.ensures));
-      stays = rw (ahead-is a.w a.number d sub.ensures (omega arith), ← at) (put, refl);
+      stays = rw (ahead-is a.w a.number d sub.ensures.value (omega arith), ← at) (put, refl);
       out_size = refl;
       out_rest = refl;
     }

@@ -16,5 +16,5 @@ halves l e (suc (suc (suc (suc k)))) =
 pub returns : goal.returns
 returns c cs b g =
     let w = c.args.w in
-    shift-agrees w _ cs b g c.wrapping_add_u32-next.ensures
+    shift-agrees w _ cs b g c.wrapping_add_u32-next.ensures.value
     c.one_more-handed.ensures refl refl refl (halves w.origins g.origins_size)

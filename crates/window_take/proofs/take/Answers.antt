@@ -41,7 +41,7 @@ returns c =
     let a = c.args in
     let h = a.headers.now in
     let cs = commands h a.tickets.now in
-    let e : got.new.1.1.0 ≡ in_slot h slot.result ++ drop 48 a.out.now = unfold in_slot in got.ensures in
+    let e : got.new.out ≡ in_slot h slot.result ++ drop 48 a.out.now = unfold in_slot in got.ensures in
     let at : slot.result ≡ slot_of a.w 0 = slot.ensures.0 in
     let room : 48 ≤ length (drop (slot.result * 48) h) = rw length-drop (omega (arith, slot.ensures.1)) in
     record {
