@@ -1,5 +1,5 @@
 /* A session from C: two connections, a write that is sent again and asks for its data, a read, a status that is sent again.
- * Build: rt staticlib capi && cc -std=c11 -Iinclude examples/session.c target/staticlib/libcapi.a -o session */
+ * Build: (cd crates/capi && rt lib) && cc -std=c11 -Iinclude examples/session.c crates/capi/out/libcapi.a -o session */
 #include <drawbevel.h>
 #include <stdio.h>
 #include <string.h>

@@ -1,5 +1,5 @@
-//! Makes the proved static library, `target/staticlib/libcapi.a`, by `rt staticlib capi`, unless the one that stands there was made of
-//! these very sources. `DRAWBEVEL_STATICLIB` names one to take as it is.
+//! Makes the proved static library, `target/staticlib/libcapi.a`, by `rt lib` in `crates/capi`, unless the one that stands there was made
+//! of these very sources. `DRAWBEVEL_STATICLIB` names one to take as it is.
 
 use std::hash::{DefaultHasher, Hasher};
 use std::path::{Path, PathBuf};
@@ -7,6 +7,8 @@ use std::process::Command;
 use std::{env, fs};
 
 const ARCHIVE: &str = "libcapi.a";
+/// The parts of a crate that are proved. What else its folder has, `out` above all, is read by no proof.
+const PARTS: [&str; 3] = ["src", "specs", "proofs"];
 /// Beside the archive: the digest of the sources that it was made of.
 const SOURCES: &str = "libcapi.sources";
 
@@ -37,15 +39,16 @@ fn made(root: &Path) -> PathBuf {
     let folder = root.join("target/staticlib");
     let archive = folder.join(ARCHIVE);
     let stamp = folder.join(SOURCES);
-    for file in [&crates, &list, &archive, &stamp] {
+    let parts = parts_of(&crates);
+    for file in [&list, &archive, &stamp].into_iter().chain(&parts) {
         println!("cargo::rerun-if-changed={}", file.display());
     }
-    let digest = digest_of(root, &list, &crates);
+    let digest = digest_of(root, &list, &parts);
     let is_of_these = fs::read_to_string(&stamp).is_ok_and(|of| of == digest);
     if !(is_of_these && archive.exists()) {
         // An archive that fails to be made anew must not pass for one of these sources later.
         let _ = fs::remove_file(&stamp);
-        prove(root);
+        prove(&crates.join("capi"), &archive);
         if let Err(error) = fs::write(&stamp, digest) {
             fail(&format!("cannot write {}: {error}", stamp.display()));
         }
@@ -55,9 +58,11 @@ fn made(root: &Path) -> PathBuf {
 
 /// A digest of the list of crates and of the names and contents of all that is proved, not of what programs print or of edits that
 /// must fail.
-fn digest_of(root: &Path, list: &Path, crates: &Path) -> String {
+fn digest_of(root: &Path, list: &Path, parts: &[PathBuf]) -> String {
     let mut files = vec![list.to_owned()];
-    sources(crates, &mut files);
+    for part in parts {
+        sources(part, &mut files);
+    }
     files.sort();
     let mut digest = DefaultHasher::new();
     for file in files {
@@ -69,6 +74,17 @@ fn digest_of(root: &Path, list: &Path, crates: &Path) -> String {
         digest.write(&content);
     }
     format!("{:016x}\n", digest.finish())
+}
+
+/// The folders of every crate that are proved.
+fn parts_of(crates: &Path) -> Vec<PathBuf> {
+    let entries = fs::read_dir(crates)
+        .unwrap_or_else(|error| fail(&format!("cannot read {}: {error}", crates.display())));
+    let folders: Vec<_> = entries.flatten().map(|entry| entry.path()).collect();
+    let parts = folders
+        .iter()
+        .flat_map(|folder| PARTS.map(|part| folder.join(part)));
+    parts.filter(|part| part.is_dir()).collect()
 }
 
 fn sources(folder: &Path, files: &mut Vec<PathBuf>) {
@@ -88,19 +104,28 @@ fn sources(folder: &Path, files: &mut Vec<PathBuf>) {
     }
 }
 
-fn prove(root: &Path) {
-    let outcome = Command::new("rt")
-        .args(["staticlib", "capi"])
-        .current_dir(root)
-        .status();
+/// Has `rt lib` prove the crate in this folder and make its archive, which is copied to where it is wanted.
+fn prove(capi: &Path, archive: &Path) {
+    let outcome = Command::new("rt").arg("lib").current_dir(capi).status();
     match outcome {
         Ok(status) if status.success() => {}
         Ok(status) => fail(&format!(
-            "'rt staticlib capi' failed ({status}); run it by hand to see why"
+            "'rt lib' failed in {} ({status}); run it by hand to see why",
+            capi.display()
         )),
         Err(error) => fail(&format!(
             "cannot run 'rt' ({error}): install Rattle's kit and put rt on the PATH"
         )),
+    }
+    let made = capi.join("out").join(ARCHIVE);
+    let folder = archive.parent().expect("a file");
+    let copied = fs::create_dir_all(folder).and_then(|()| fs::copy(&made, archive));
+    if let Err(error) = copied {
+        fail(&format!(
+            "cannot copy {} to {}: {error}",
+            made.display(),
+            archive.display()
+        ));
     }
 }
 

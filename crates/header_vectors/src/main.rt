@@ -8,9 +8,10 @@ mod show;
 
 ghost use Rattle.std.specs.Prelude.{◌≤◌, length};
 
-use libc::STDIN_FILENO;
-use print::{find, past, put, put_with};
+use print::{fill, find, past, put, put_with};
 use request_header::{LIMITS, ReadAnswer};
+use std::io;
+use std::io::{BufWriter, Write};
 
 // The number that the decimal digits after a place are, up to the first other byte; at most 65535.
 fn number_after(text: &[u8], plus: usize) -> usize
@@ -30,65 +31,70 @@ fn number_after(text: &[u8], plus: usize) -> usize
     n
 }
 
-fn put_ends(first: u8, last: u8) {
+fn put_ends<W: Write>(to: &mut W, first: u8, last: u8) -> io::Result<()> {
     put_with(
+        to,
         b"    data starts %1, ends %1\n",
         &[first as u64, last as u64],
-    );
+    )
 }
 
 // The data segment's first and last byte, where it has any.
-fn ends(data: &[u8]) {
-    if 0 < data.len() {
-        put_ends(data[0], data[data.len() - 1]);
+fn ends<W: Write>(to: &mut W, data: &[u8]) -> io::Result<()> {
+    if data.len() == 0 {
+        return Ok(());
     }
+    put_ends(to, data[0], data[data.len() - 1])
 }
 
 // Reads the PDU that the first n bytes of the buffer are.
-fn read_first(buffer: &[u8], n: usize) {
+fn read_first<W: Write>(to: &mut W, buffer: &[u8], n: usize) -> io::Result<()> {
     if buffer.len() < n {
-        return;
+        return Ok(());
     }
     let pdu = &buffer[0..n];
     let a = request_pdu::read(pdu, LIMITS);
-    show::answer(a);
+    show::answer(to, a)?;
     match a {
-        ReadAnswer::Got(p) => ends(request_pdu::data_of(pdu, p)),
-        ReadAnswer::Refused(_) => {}
+        ReadAnswer::Got(p) => ends(to, request_pdu::data_of(pdu, p)),
+        ReadAnswer::Refused(_) => Ok(()),
     }
 }
 
-fn run_vector(line: &[u8]) {
+fn run_vector<W: Write>(to: &mut W, line: &[u8]) -> io::Result<()> {
     let mut pdu = [0x61u8; 9000];
     let n = hex::unhex(line, &mut pdu);
     let more = number_after(line, find(line, 0, b'+'));
-    read_first(&pdu, n + more);
+    read_first(to, &pdu, n + more)
 }
 
-fn run_line(line: &[u8]) {
+fn run_line<W: Write>(to: &mut W, line: &[u8]) -> io::Result<()> {
     if line.len() == 0 {
-        return;
+        return Ok(());
     }
     if line[0] == b'#' {
-        put(line);
-        put(b"\n");
+        put(to, line)?;
+        put(to, b"\n")
     } else {
-        run_vector(line);
+        run_vector(to, line)
     }
 }
 
-fn run_all(script: &[u8]) {
+fn run_all<W: Write>(to: &mut W, script: &[u8]) -> io::Result<()> {
     let mut at = 0;
     while at < script.len() {
         let end = find(script, at, b'\n');
-        run_line(&script[at..end]);
+        run_line(to, &script[at..end])?;
         at = past(script, end);
     }
+    Ok(())
 }
 
-fn main() {
-    let mut buffer = io::large_buffer();
-    let n = io::read_full(STDIN_FILENO, &mut buffer);
-    run_all(&buffer[..n]);
-    responses::run_all();
+fn main(rt: HostRuntime) -> io::Result<()> {
+    let mut buffer = [0u8; 65536];
+    let n = fill(&mut rt.stdin(), &mut buffer)?;
+    let mut to = BufWriter::new(rt.alloc(), io::writer(&rt))?;
+    run_all(&mut to, &buffer[..n])?;
+    responses::run_all(&mut to)?;
+    to.flush()
 }

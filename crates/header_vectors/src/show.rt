@@ -3,6 +3,8 @@ use print::{part, put, put_refused, put_with};
 use request_header::{
     DataOut, Login, Logout, NopOut, Pdu, ReadAnswer, Request, ScsiCommand, Snack, TaskManagement,
 };
+use std::io;
+use std::io::Write;
 
 fn kind(r: Request) -> usize {
     match r {
@@ -17,13 +19,17 @@ fn kind(r: Request) -> usize {
 }
 
 // The kind, and the fields that each kind has.
-fn common(p: Pdu) {
+fn common<W: Write>(to: &mut W, p: Pdu) -> io::Result<()> {
     let r = p.request;
-    put(part(
-        b"nop-out|scsi-command|task-management|login|data-out|logout|snack",
-        kind(r),
-    ));
+    put(
+        to,
+        part(
+            b"nop-out|scsi-command|task-management|login|data-out|logout|snack",
+            kind(r),
+        ),
+    )?;
     put_with(
+        to,
         b" i=%d cmdsn=0x%4 lun=0x%8 itt=0x%4 expstatsn=0x%4",
         &[
             p.immediate as u64,
@@ -32,15 +38,16 @@ fn common(p: Pdu) {
             p.initiator_task_tag as u64,
             p.exp_stat_sn as u64,
         ],
-    );
+    )
 }
 
-fn nop_out(x: NopOut) {
-    put_with(b" ttt=0x%4", &[x.target_transfer_tag as u64]);
+fn nop_out<W: Write>(to: &mut W, x: NopOut) -> io::Result<()> {
+    put_with(to, b" ttt=0x%4", &[x.target_transfer_tag as u64])
 }
 
-fn scsi_command(x: ScsiCommand) {
+fn scsi_command<W: Write>(to: &mut W, x: ScsiCommand) -> io::Result<()> {
     put_with(
+        to,
         b" f=%d r=%d w=%d attribute=%d edtl=0x%4 cdb0=0x%8 cdb1=0x%8 ahs=%d",
         &[
             x.is_final as u64,
@@ -52,11 +59,12 @@ fn scsi_command(x: ScsiCommand) {
             x.cdb_1,
             x.total_ahs_length as u64,
         ],
-    );
+    )
 }
 
-fn task_management(x: TaskManagement) {
+fn task_management<W: Write>(to: &mut W, x: TaskManagement) -> io::Result<()> {
     put_with(
+        to,
         b" function=%d rtt=0x%4 refcmdsn=0x%4 expdatasn=0x%4",
         &[
             x.function as u64,
@@ -64,11 +72,12 @@ fn task_management(x: TaskManagement) {
             x.ref_cmd_sn as u64,
             x.exp_data_sn as u64,
         ],
-    );
+    )
 }
 
-fn login(x: Login) {
+fn login<W: Write>(to: &mut W, x: Login) -> io::Result<()> {
     put_with(
+        to,
         b" t=%d c=%d csg=%d nsg=%d versionmax=%d versionmin=%d isid=0x%8 tsih=0x%2 cid=0x%2",
         &[
             x.transit as u64,
@@ -81,11 +90,12 @@ fn login(x: Login) {
             x.tsih as u64,
             x.cid as u64,
         ],
-    );
+    )
 }
 
-fn data_out(x: DataOut) {
+fn data_out<W: Write>(to: &mut W, x: DataOut) -> io::Result<()> {
     put_with(
+        to,
         b" f=%d ttt=0x%4 datasn=0x%4 offset=0x%4",
         &[
             x.is_final as u64,
@@ -93,15 +103,16 @@ fn data_out(x: DataOut) {
             x.data_sn as u64,
             x.buffer_offset as u64,
         ],
-    );
+    )
 }
 
-fn logout(x: Logout) {
-    put_with(b" reason=%d cid=0x%2", &[x.reason as u64, x.cid as u64]);
+fn logout<W: Write>(to: &mut W, x: Logout) -> io::Result<()> {
+    put_with(to, b" reason=%d cid=0x%2", &[x.reason as u64, x.cid as u64])
 }
 
-fn snack(x: Snack) {
+fn snack<W: Write>(to: &mut W, x: Snack) -> io::Result<()> {
     put_with(
+        to,
         b" type=%d ttt=0x%4 begrun=0x%4 runlength=0x%4",
         &[
             x.snack_type as u64,
@@ -109,34 +120,35 @@ fn snack(x: Snack) {
             x.beg_run as u64,
             x.run_length as u64,
         ],
-    );
+    )
 }
 
-fn own(r: Request) {
+fn own<W: Write>(to: &mut W, r: Request) -> io::Result<()> {
     match r {
-        Request::NopOut(x) => nop_out(x),
-        Request::ScsiCommand(x) => scsi_command(x),
-        Request::TaskManagement(x) => task_management(x),
-        Request::Login(x) => login(x),
-        Request::DataOut(x) => data_out(x),
-        Request::Logout(x) => logout(x),
-        Request::Snack(x) => snack(x),
+        Request::NopOut(x) => nop_out(to, x),
+        Request::ScsiCommand(x) => scsi_command(to, x),
+        Request::TaskManagement(x) => task_management(to, x),
+        Request::Login(x) => login(to, x),
+        Request::DataOut(x) => data_out(to, x),
+        Request::Logout(x) => logout(to, x),
+        Request::Snack(x) => snack(to, x),
     }
 }
 
-fn pdu(p: Pdu) {
+fn pdu<W: Write>(to: &mut W, p: Pdu) -> io::Result<()> {
     let r = p.request;
-    common(p);
-    own(r);
+    common(to, p)?;
+    own(to, r)?;
     put_with(
+        to,
         b" data=%d+%d\n",
         &[p.data_start as u64, p.data_segment_length as u64],
-    );
+    )
 }
 
-pub fn answer(a: ReadAnswer) {
+pub fn answer<W: Write>(to: &mut W, a: ReadAnswer) -> io::Result<()> {
     match a {
-        ReadAnswer::Got(p) => pdu(p),
-        ReadAnswer::Refused(f) => put_refused(f),
+        ReadAnswer::Got(p) => pdu(to, p),
+        ReadAnswer::Refused(f) => put_refused(to, f),
     }
 }

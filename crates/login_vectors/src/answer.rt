@@ -4,61 +4,69 @@ use key_table::parameters::Parameters;
 use login_types::state::{Accepted, Answer};
 use print::{find, part, past, put, put_refused, put_with};
 use refusal::{Refusal, number_of, status_of};
+use std::io;
+use std::io::Write;
 
-fn put_refusal(f: Refusal) {
+fn put_refusal<W: Write>(to: &mut W, f: Refusal) -> io::Result<()> {
     let status = status_of(f);
     if status == 0 {
-        put_refused(f);
+        put_refused(to, f)
     } else {
-        put_with(b"refused %d 0x%2\n", &[number_of(f) as u64, status as u64]);
+        put_with(
+            to,
+            b"refused %d 0x%2\n",
+            &[number_of(f) as u64, status as u64],
+        )
     }
 }
 
 // Text with | for each zero byte.
-fn put_text(s: &[u8]) {
+fn put_text<W: Write>(to: &mut W, s: &[u8]) -> io::Result<()> {
     let mut at = 0;
     while at < s.len() {
         let end = find(s, at, 0);
-        put(&s[at..end]);
+        put(to, &s[at..end])?;
         if end < s.len() {
-            put(b"|");
+            put(to, b"|")?;
         }
         at = past(s, end);
     }
+    Ok(())
 }
 
-fn put_stages(a: Accepted) {
-    put_with(b"stage %d", &[a.stage as u64]);
-    put(part(b"| T", a.transit as usize));
+fn put_stages<W: Write>(to: &mut W, a: Accepted) -> io::Result<()> {
+    put_with(to, b"stage %d", &[a.stage as u64])?;
+    put(to, part(b"| T", a.transit as usize))?;
     put_with(
+        to,
         b" CSG %d NSG %d TSIH 0x%2 ",
         &[a.csg as u64, a.nsg as u64, a.tsih as u64],
-    );
+    )
 }
 
-fn put_accepted(a: Accepted, out: &[u8]) {
-    put_stages(a);
-    put_text(first(out, a.length as u64));
-    put(b"\n");
+fn put_accepted<W: Write>(to: &mut W, a: Accepted, out: &[u8]) -> io::Result<()> {
+    put_stages(to, a)?;
+    put_text(to, first(out, a.length as u64))?;
+    put(to, b"\n")
 }
 
-pub(crate) fn put_answer(a: Answer, out: &[u8; 8192]) {
+pub(crate) fn put_answer<W: Write>(to: &mut W, a: Answer, out: &[u8; 8192]) -> io::Result<()> {
     match a {
-        Answer::Refused(f) => put_refusal(f),
-        Answer::Accepted(x) => put_accepted(x, out),
+        Answer::Refused(f) => put_refusal(to, f),
+        Answer::Accepted(x) => put_accepted(to, x, out),
     }
 }
 
-fn put_value(v: u32) {
-    put_with(b"%d ", &[v as u64]);
+fn put_value<W: Write>(to: &mut W, v: u32) -> io::Result<()> {
+    put_with(to, b"%d ", &[v as u64])
 }
 
-pub(crate) fn put_parameters(p: Parameters) {
+pub(crate) fn put_parameters<W: Write>(to: &mut W, p: Parameters) -> io::Result<()> {
     let values = p.values;
     let mut i = 0;
     while i < 12 {
-        put_value(values[i]);
+        put_value(to, values[i])?;
         i += 1;
     }
-    put(b"\n");
+    put(to, b"\n")
 }

@@ -9,11 +9,12 @@ mod answer;
 mod pdu;
 
 use answer::{put_answer, put_parameters};
-use libc::STDIN_FILENO;
 use login::request::login_request;
 use login_types::state::{State, Step};
 use pdu::{first, least, put_pdu, short, words_of};
-use print::{find, past, put};
+use print::{fill, find, past, put};
+use std::io;
+use std::io::{BufWriter, Write};
 
 // A login, with the gather area and the text output.
 #[derive(Clone, Copy)]
@@ -46,31 +47,37 @@ fn lend(s: State, n: [u64; 11], pdu: &[u8], gather: &mut [u8], out: &mut [u8]) -
 }
 
 // Plays the first bytes of a PDU, and writes the answer.
-fn answered(l: Login, n: [u64; 11], pdu: &[u8; 9000], end: u64) -> Login {
+fn answered<W: Write>(
+    to: &mut W,
+    l: Login,
+    n: [u64; 11],
+    pdu: &[u8; 9000],
+    end: u64,
+) -> io::Result<Login> {
     let s = l.state;
     let mut gather = l.gather;
     let mut out = l.out;
     let step = lend(s, n, first(pdu, end), &mut gather, &mut out);
     let answer = step.answer;
     let state = step.state;
-    put_answer(answer, &out);
-    Login { state, gather, out }
+    put_answer(to, answer, &out)?;
+    Ok(Login { state, gather, out })
 }
 
-fn request(l: Login, line: &[u8]) -> Login {
+fn request<W: Write>(to: &mut W, l: Login, line: &[u8]) -> io::Result<Login> {
     let w = words_of(line);
     let n = w.n;
     let rest = w.rest;
     let mut pdu = [0u8; 9000];
     let end = put_pdu(&mut pdu, n, &line[rest..]);
-    answered(l, n, &pdu, end)
+    answered(to, l, n, &pdu, end)
 }
 
-fn put_params(l: Login) {
+fn put_params<W: Write>(to: &mut W, l: Login) -> io::Result<()> {
     let state = l.state;
     let settled = state.settled;
     let p = settled.parameters;
-    put_parameters(p);
+    put_parameters(to, p)
 }
 
 fn begun(l: Login) -> Login {
@@ -79,25 +86,25 @@ fn begun(l: Login) -> Login {
     after
 }
 
-fn copy(line: &[u8]) {
-    put(line);
-    put(b"\n");
+fn copy<W: Write>(to: &mut W, line: &[u8]) -> io::Result<()> {
+    put(to, line)?;
+    put(to, b"\n")
 }
 
-fn run_line(l: Login, line: &[u8]) -> Login {
+fn run_line<W: Write>(to: &mut W, l: Login, line: &[u8]) -> io::Result<Login> {
     let first = if line.len() == 0 { b'#' } else { line[0] };
     if first == b'0' {
-        return request(l, line);
+        return request(to, l, line);
     }
     if first == b'p' {
-        put_params(l);
-        return l;
+        put_params(to, l)?;
+        return Ok(l);
     }
-    copy(line);
-    if first == b'l' { begun(l) } else { l }
+    copy(to, line)?;
+    Ok(if first == b'l' { begun(l) } else { l })
 }
 
-fn run_all(script: &[u8]) {
+fn run_all<W: Write>(to: &mut W, script: &[u8]) -> io::Result<()> {
     let mut l = Login {
         state: State::fresh(),
         gather: [0xeeu8; 8192],
@@ -106,13 +113,16 @@ fn run_all(script: &[u8]) {
     let mut at = 0;
     while at < script.len() {
         let end = find(script, at, b'\n');
-        l = run_line(l, &script[at..end]);
+        l = run_line(to, l, &script[at..end])?;
         at = past(script, end);
     }
+    Ok(())
 }
 
-fn main() {
-    let mut input = io::large_buffer();
-    let n = io::read_full(STDIN_FILENO, &mut input);
-    run_all(&input[..n]);
+fn main(rt: HostRuntime) -> io::Result<()> {
+    let mut input = [0u8; 65536];
+    let n = fill(&mut rt.stdin(), &mut input)?;
+    let mut to = BufWriter::new(rt.alloc(), io::writer(&rt))?;
+    run_all(&mut to, &input[..n])?;
+    to.flush()
 }

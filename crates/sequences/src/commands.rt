@@ -10,77 +10,91 @@ use session::FreshSession;
 use session_commands::{OfferAnswer, TakeAnswer};
 use session_connections::{LogoutAnswer, OpenAnswer, after_logout};
 use session_state::{Session, after_conn, after_window};
+use std::io;
+use std::io::Write;
 use window::{Offered, Origin, Taken};
 
-fn put_offered(o: Offered) {
+fn put_offered<W: Write>(to: &mut W, o: Offered) -> io::Result<()> {
     match o {
-        Offered::Kept => came(KEPT, 0, 0),
-        Offered::Duplicate => came(DUPLICATE, 0, 0),
-        Offered::Passed => came(PASSED, 0, 0),
-        Offered::Beyond => came(BEYOND, 0, 0),
+        Offered::Kept => came(to, KEPT, 0, 0),
+        Offered::Duplicate => came(to, DUPLICATE, 0, 0),
+        Offered::Passed => came(to, PASSED, 0, 0),
+        Offered::Beyond => came(to, BEYOND, 0, 0),
     }
 }
 
-fn put_offer(a: OfferAnswer) {
+fn put_offer<W: Write>(to: &mut W, a: OfferAnswer) -> io::Result<()> {
     match a {
-        OfferAnswer::Refused(f) => put_refused(f),
-        OfferAnswer::Immediate => came(IMMEDIATE, 0, 0),
-        OfferAnswer::Numbered(o) => put_offered(o),
+        OfferAnswer::Refused(f) => put_refused(to, f),
+        OfferAnswer::Immediate => came(to, IMMEDIATE, 0, 0),
+        OfferAnswer::Numbered(o) => put_offered(to, o),
     }
 }
 
 // Offers a PDU.
-fn offer_pdu(f: FreshSession, conn: u32, ticket: u32, pdu: &[u8; 48]) -> FreshSession {
+fn offer_pdu<W: Write>(
+    to: &mut W,
+    f: FreshSession,
+    conn: u32,
+    ticket: u32,
+    pdu: &[u8; 48],
+) -> io::Result<FreshSession> {
     let s = f.session;
     let mut after = f;
     let mut headers = f.headers;
     let mut tickets = f.tickets;
     let step = session_commands::offer(s, conn, ticket, pdu, &mut headers, &mut tickets);
     let answer = step.answer;
-    put_offer(answer);
+    put_offer(to, answer)?;
     let w = step.window;
     after.session = after_window(s, w);
     after.headers = headers;
     after.tickets = tickets;
-    after
+    Ok(after)
 }
 
-pub(crate) fn offer(f: FreshSession, conn: u32, number: u32, ticket: u32) -> FreshSession {
-    called(OFFER, conn, number, ticket);
-    offer_pdu(f, conn, ticket, &write_command(number, ticket))
+pub(crate) fn offer<W: Write>(
+    to: &mut W,
+    f: FreshSession,
+    conn: u32,
+    number: u32,
+    ticket: u32,
+) -> io::Result<FreshSession> {
+    called(to, OFFER, conn, number, ticket)?;
+    offer_pdu(to, f, conn, ticket, &write_command(number, ticket))
 }
 
-fn put_origin(o: Origin) {
+fn put_origin<W: Write>(to: &mut W, o: Origin) -> io::Result<()> {
     match o {
-        Origin::None => came(NO_ORIGIN, 0, 0),
-        Origin::Connection(c) => came(ORIGIN, c, 0),
+        Origin::None => came(to, NO_ORIGIN, 0, 0),
+        Origin::Connection(c) => came(to, ORIGIN, c, 0),
     }
 }
 
-fn put_taken(t: Taken) {
+fn put_taken<W: Write>(to: &mut W, t: Taken) -> io::Result<()> {
     match t {
-        Taken::Nothing => came(NOTHING, 0, 0),
-        Taken::Void(n) => came(VOID, n, 0),
+        Taken::Nothing => came(to, NOTHING, 0, 0),
+        Taken::Void(n) => came(to, VOID, n, 0),
         Taken::Command {
             number,
             ticket,
             origin,
         } => {
-            came(OUT, number, ticket);
-            put_origin(origin);
+            came(to, OUT, number, ticket)?;
+            put_origin(to, origin)
         }
     }
 }
 
-fn put_take(a: TakeAnswer) {
+fn put_take<W: Write>(to: &mut W, a: TakeAnswer) -> io::Result<()> {
     match a {
-        TakeAnswer::Refused(f) => put_refused(f),
-        TakeAnswer::Taken(t) => put_taken(t),
+        TakeAnswer::Refused(f) => put_refused(to, f),
+        TakeAnswer::Taken(t) => put_taken(to, t),
     }
 }
 
-pub(crate) fn take(f: FreshSession) -> FreshSession {
-    called(TAKE, 0, 0, 0);
+pub(crate) fn take<W: Write>(to: &mut W, f: FreshSession) -> io::Result<FreshSession> {
+    called(to, TAKE, 0, 0, 0)?;
     let s = f.session;
     let mut after = f;
     let mut out = [0u8; 48];
@@ -88,59 +102,69 @@ pub(crate) fn take(f: FreshSession) -> FreshSession {
     let tickets = f.tickets;
     let step = session_commands::take(s, &headers, &tickets, &mut out);
     let answer = step.answer;
-    put_take(answer);
+    put_take(to, answer)?;
     let w = step.window;
     after.session = after_window(s, w);
-    after
+    Ok(after)
 }
 
 // ExpCmdSN and MaxCmdSN.
-pub(crate) fn numbers(f: FreshSession) {
+pub(crate) fn numbers<W: Write>(to: &mut W, f: FreshSession) -> io::Result<()> {
     let s = f.session;
     let n = session_questions::window_numbers(s);
-    came(WINDOW, n.exp_cmd_sn, n.max_cmd_sn);
+    came(to, WINDOW, n.exp_cmd_sn, n.max_cmd_sn)
 }
 
-fn after_open(s: Session, conn: u32, a: OpenAnswer) -> Session {
+fn after_open<W: Write>(to: &mut W, s: Session, conn: u32, a: OpenAnswer) -> io::Result<Session> {
     match a {
         OpenAnswer::Refused(f) => {
-            put_refused(f);
-            s
+            put_refused(to, f)?;
+            Ok(s)
         }
         OpenAnswer::Opened(k) => {
-            came(OPENED, 0, 0);
-            after_conn(s, conn, k)
+            came(to, OPENED, 0, 0)?;
+            Ok(after_conn(s, conn, k))
         }
     }
 }
 
-pub(crate) fn open(f: FreshSession, conn: u32, stat_sn: u32) -> FreshSession {
-    called(OPEN, conn, 0, 0);
+pub(crate) fn open<W: Write>(
+    to: &mut W,
+    f: FreshSession,
+    conn: u32,
+    stat_sn: u32,
+) -> io::Result<FreshSession> {
+    called(to, OPEN, conn, 0, 0)?;
     let s = f.session;
     let mut after = f;
     let answer = session_connections::open_connection(s, conn, Opening { stat_sn: stat_sn });
-    after.session = after_open(s, conn, answer);
-    after
+    after.session = after_open(to, s, conn, answer)?;
+    Ok(after)
 }
 
-fn put_logout(a: LogoutAnswer) {
+fn put_logout<W: Write>(to: &mut W, a: LogoutAnswer) -> io::Result<()> {
     match a {
-        LogoutAnswer::Refused(f) => put_refused(f),
+        LogoutAnswer::Refused(f) => put_refused(to, f),
         LogoutAnswer::LoggedOut {
             emptied,
             voided,
             closes: _,
-        } => came(LOGGED_OUT, emptied, voided),
+        } => came(to, LOGGED_OUT, emptied, voided),
     }
 }
 
-pub(crate) fn logout(f: FreshSession, conn: u32, reason: u8) -> FreshSession {
-    called(LOGOUT, conn, reason as u32, 0);
+pub(crate) fn logout<W: Write>(
+    to: &mut W,
+    f: FreshSession,
+    conn: u32,
+    reason: u8,
+) -> io::Result<FreshSession> {
+    called(to, LOGOUT, conn, reason as u32, 0)?;
     let s = f.session;
     let mut after = f;
     let step = session_connections::logout(s, conn, reason);
     let answer = step.answer;
-    put_logout(answer);
+    put_logout(to, answer)?;
     after.session = after_logout(s, conn, step);
-    after
+    Ok(after)
 }

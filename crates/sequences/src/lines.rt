@@ -1,5 +1,7 @@
 // What is written: a line's start says what was called, and its end what came.
 use print::{part, put_with};
+use std::io;
+use std::io::Write;
 
 pub(crate) const OFFER: usize = 0;
 
@@ -18,8 +20,9 @@ pub(crate) const SNACK: usize = 6;
 pub(crate) const RESEND: usize = 7;
 
 // The start of a line, with the call's numbers.
-pub(crate) fn called(call: usize, a: u32, b: u32, c: u32) {
+pub(crate) fn called<W: Write>(to: &mut W, call: usize, a: u32, b: u32, c: u32) -> io::Result<()> {
     put_with(
+        to,
         part(
             b"offer %d number 0x%4 ticket %d: \
               |take: \
@@ -32,7 +35,7 @@ pub(crate) fn called(call: usize, a: u32, b: u32, c: u32) {
             call,
         ),
         &[a as u64, b as u64, c as u64],
-    );
+    )
 }
 
 pub(crate) const IMMEDIATE: usize = 0;
@@ -68,8 +71,9 @@ pub(crate) const ACKNOWLEDGED: usize = 14;
 pub(crate) const RUN: usize = 15;
 
 // The end of a line, with the answer's numbers.
-pub(crate) fn came(answer: usize, a: u32, b: u32) {
+pub(crate) fn came<W: Write>(to: &mut W, answer: usize, a: u32, b: u32) -> io::Result<()> {
     put_with(
+        to,
         part(
             b"immediate\n\
               |kept\n\
@@ -90,5 +94,5 @@ pub(crate) fn came(answer: usize, a: u32, b: u32) {
             answer,
         ),
         &[a as u64, b as u64],
-    );
+    )
 }

@@ -9,22 +9,24 @@ use session_send::SendAnswer;
 use session_snack::SnackAnswer;
 use session_state::{Session, after_ledger};
 use session_statuses::{AcknowledgeAnswer, ResendAnswer};
+use std::io;
+use std::io::Write;
 use task::{MakeAnswer, Task};
 use task_book::TaskGiven;
 
-fn after_send(s: Session, conn: u32, a: SendAnswer) -> Session {
+fn after_send<W: Write>(to: &mut W, s: Session, conn: u32, a: SendAnswer) -> io::Result<Session> {
     match a {
         SendAnswer::Refused(f) => {
-            put_refused(f);
-            s
+            put_refused(to, f)?;
+            Ok(s)
         }
         SendAnswer::Sent(n) => {
-            came(SENT, n, 0);
-            s
+            came(to, SENT, n, 0)?;
+            Ok(s)
         }
         SendAnswer::Stored { stat_sn, ledger } => {
-            came(SENT, stat_sn, 0);
-            after_ledger(s, conn, ledger)
+            came(to, SENT, stat_sn, 0)?;
+            Ok(after_ledger(s, conn, ledger))
         }
     }
 }
@@ -43,7 +45,13 @@ fn fresh_task() -> MakeAnswer {
     )
 }
 
-fn send_with(f: FreshSession, conn: u32, ticket: u32, t: Task) -> FreshSession {
+fn send_with<W: Write>(
+    to: &mut W,
+    f: FreshSession,
+    conn: u32,
+    ticket: u32,
+    t: Task,
+) -> io::Result<FreshSession> {
     let s = f.session;
     let mut after = f;
     let mut statuses = f.statuses;
@@ -51,58 +59,80 @@ fn send_with(f: FreshSession, conn: u32, ticket: u32, t: Task) -> FreshSession {
     let mut out = [0u8; 48];
     let r = Response::Reject(Reject { reason: 4 });
     let a = session_send::send(s, conn, ticket, r, t, &mut out, &mut statuses, &mut tickets);
-    after.session = after_send(s, conn, a);
+    after.session = after_send(to, s, conn, a)?;
     after.statuses = statuses;
     after.status_tickets = tickets;
-    after
+    Ok(after)
 }
 
 // Sends a Reject with reason 4.
-pub(crate) fn send(f: FreshSession, conn: u32, ticket: u32) -> FreshSession {
-    called(SEND, conn, 0, 0);
+pub(crate) fn send<W: Write>(
+    to: &mut W,
+    f: FreshSession,
+    conn: u32,
+    ticket: u32,
+) -> io::Result<FreshSession> {
+    called(to, SEND, conn, 0, 0)?;
     match fresh_task() {
         MakeAnswer::Refused(e) => {
-            put_refused(e);
-            f
+            put_refused(to, e)?;
+            Ok(f)
         }
-        MakeAnswer::Made(t) => send_with(f, conn, ticket, t),
+        MakeAnswer::Made(t) => send_with(to, f, conn, ticket, t),
     }
 }
 
-fn after_acknowledge(s: Session, conn: u32, a: AcknowledgeAnswer) -> Session {
+fn after_acknowledge<W: Write>(
+    to: &mut W,
+    s: Session,
+    conn: u32,
+    a: AcknowledgeAnswer,
+) -> io::Result<Session> {
     match a {
         AcknowledgeAnswer::Refused(f) => {
-            put_refused(f);
-            s
+            put_refused(to, f)?;
+            Ok(s)
         }
         AcknowledgeAnswer::Acknowledged { count, ledger } => {
-            came(ACKNOWLEDGED, count, 0);
-            after_ledger(s, conn, ledger)
+            came(to, ACKNOWLEDGED, count, 0)?;
+            Ok(after_ledger(s, conn, ledger))
         }
     }
 }
 
-pub(crate) fn acknowledge(f: FreshSession, conn: u32, exp_stat_sn: u32) -> FreshSession {
-    called(ACKNOWLEDGE, conn, exp_stat_sn, 0);
+pub(crate) fn acknowledge<W: Write>(
+    to: &mut W,
+    f: FreshSession,
+    conn: u32,
+    exp_stat_sn: u32,
+) -> io::Result<FreshSession> {
+    called(to, ACKNOWLEDGE, conn, exp_stat_sn, 0)?;
     let s = f.session;
     let mut after = f;
     let a = session_statuses::acknowledge(s, conn, exp_stat_sn);
-    after.session = after_acknowledge(s, conn, a);
-    after
+    after.session = after_acknowledge(to, s, conn, a)?;
+    Ok(after)
 }
 
-pub(crate) fn snack(f: FreshSession, conn: u32, beg_run: u32, run_length: u32) {
-    called(SNACK, conn, beg_run, run_length);
+pub(crate) fn snack<W: Write>(
+    to: &mut W,
+    f: FreshSession,
+    conn: u32,
+    beg_run: u32,
+    run_length: u32,
+) -> io::Result<()> {
+    called(to, SNACK, conn, beg_run, run_length)?;
     let s = f.session;
     match session_snack::snack(s, conn, &status_snack(beg_run, run_length)) {
-        SnackAnswer::Refused(f) => put_refused(f),
-        SnackAnswer::Run { first, count } => came(RUN, first, count),
+        SnackAnswer::Refused(f) => put_refused(to, f),
+        SnackAnswer::Run { first, count } => came(to, RUN, first, count),
     }
 }
 
 // The ticket of a resent status, and of its header the numbers from StatSN to MaxCmdSN.
-fn put_resent(ticket: u32, header: &[u8; 48]) {
+fn put_resent<W: Write>(to: &mut W, ticket: u32, header: &[u8; 48]) -> io::Result<()> {
     put_with(
+        to,
         b"resent ticket %d numbers 0x%4 0x%4 0x%4\n",
         &[
             ticket as u64,
@@ -110,24 +140,35 @@ fn put_resent(ticket: u32, header: &[u8; 48]) {
             be32(header, 28) as u64,
             be32(header, 32) as u64,
         ],
-    );
+    )
 }
 
-fn resend_with(f: FreshSession, conn: u32, stat_sn: u32, t: Task) {
+fn resend_with<W: Write>(
+    to: &mut W,
+    f: FreshSession,
+    conn: u32,
+    stat_sn: u32,
+    t: Task,
+) -> io::Result<()> {
     let s = f.session;
     let statuses = f.statuses;
     let tickets = f.status_tickets;
     let mut out = [0u8; 48];
     match session_statuses::resend(s, conn, stat_sn, t, &statuses, &tickets, &mut out) {
-        ResendAnswer::Refused(f) => put_refused(f),
-        ResendAnswer::Resent(t) => put_resent(t, &out),
+        ResendAnswer::Refused(f) => put_refused(to, f),
+        ResendAnswer::Resent(t) => put_resent(to, t, &out),
     }
 }
 
-pub(crate) fn resend(f: FreshSession, conn: u32, stat_sn: u32) {
-    called(RESEND, conn, stat_sn, 0);
+pub(crate) fn resend<W: Write>(
+    to: &mut W,
+    f: FreshSession,
+    conn: u32,
+    stat_sn: u32,
+) -> io::Result<()> {
+    called(to, RESEND, conn, stat_sn, 0)?;
     match fresh_task() {
-        MakeAnswer::Refused(e) => put_refused(e),
-        MakeAnswer::Made(t) => resend_with(f, conn, stat_sn, t),
+        MakeAnswer::Refused(e) => put_refused(to, e),
+        MakeAnswer::Made(t) => resend_with(to, f, conn, stat_sn, t),
     }
 }

@@ -1,6 +1,5 @@
--- `header_vectors::number_after` meets its contract: the number is cut at each turn.
-use Prim.Native.Nat.{◌≤◌, ◌-◌}
-use lib.ListN.{length}
+-- The number is cut at each turn.
+use Rattle.std.proofs.Common.{length, ◌-◌, ◌≤◌}
 use Rattle.header_vectors.proofs.number_after.Given as goal
 
 abbrev pub invariant-loop-i : goal.invariant-loop-i

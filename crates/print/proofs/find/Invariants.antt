@@ -1,6 +1,5 @@
--- `print::find` meets its contract: what is looked at lies in the text.
-use Prim.Native.Nat.{◌≤◌, ◌-◌}
-use lib.ListN.{length}
+-- What is looked at lies in the text.
+use Rattle.std.proofs.Common.{length, ◌-◌, ◌≤◌}
 use Rattle.print.proofs.find.Given as goal
 
 abbrev pub invariant-loop-i : goal.invariant-loop-i

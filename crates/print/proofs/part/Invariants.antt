@@ -1,6 +1,5 @@
--- `print::part` is safe and ends: a part is passed over at each turn.
-use Prim.Native.Nat.{◌≤◌, ◌-◌}
-use lib.ListN.{length}
+-- A part is passed over at each turn.
+use Rattle.std.proofs.Common.{length, ◌-◌, ◌≤◌}
 use Rattle.print.proofs.part.Given as goal
 
 abbrev pub invariant-loop-i : goal.invariant-loop-i

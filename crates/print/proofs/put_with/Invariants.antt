@@ -1,10 +1,9 @@
--- `print::put_with` is safe and ends: a number is written at each turn.
-use Prim.Native.Nat.{◌≤◌, ◌-◌}
-use lib.ListN.{length}
+-- A number is written at each turn.
+use Rattle.std.proofs.Common.{length, ◌-◌, ◌≤◌}
 use Rattle.print.proofs.put_with.Given as goal
 
 abbrev pub invariant-loop-i : goal.invariant-loop-i
-invariant-loop-i l = (l.at ≤ length l.text) × (l.i ≤ length l.numbers)
+invariant-loop-i g l = (l.at ≤ length l.text) × (l.i ≤ length l.numbers)
 
 abbrev pub decreases-loop-i : goal.decreases-loop-i
-decreases-loop-i l = length l.numbers - l.i
+decreases-loop-i g l = length l.numbers - l.i

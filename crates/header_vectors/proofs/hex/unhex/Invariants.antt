@@ -1,7 +1,5 @@
--- `header_vectors::hex::unhex` meets its contract: two digits are read at each turn.
-use mathlib.Core.Path.{◌≡◌}
-use Prim.Native.Nat.{◌≤◌, ◌-◌}
-use lib.ListN.{length}
+-- Two digits are read at each turn.
+use Rattle.std.proofs.Common.{length, ◌-◌, ◌≡◌, ◌≤◌}
 use Rattle.header_vectors.proofs.hex.unhex.Given as goal
 
 abbrev pub invariant-loop-i : goal.invariant-loop-i

@@ -1,6 +1,5 @@
--- `login_vectors::pdu::put_text` meets its contract: a byte is written at each turn.
-use Prim.Native.Nat.{◌≤◌, ◌-◌}
-use lib.ListN.{length}
+-- A byte is written at each turn.
+use Rattle.std.proofs.Common.{length, ◌-◌, ◌≤◌}
 use Rattle.login_vectors.proofs.pdu.put_text.Given as goal
 
 abbrev pub invariant-loop-i : goal.invariant-loop-i

@@ -1,6 +1,5 @@
--- `login_vectors::pdu::words_of` meets its contract: a word is read at each turn.
-use Prim.Native.Nat.{◌≤◌, ◌-◌}
-use lib.ListN.{length}
+-- A word is read at each turn.
+use Rattle.std.proofs.Common.{length, ◌-◌, ◌≤◌}
 use Rattle.login_vectors.proofs.pdu.words_of.Given as goal
 
 abbrev pub invariant-loop-i : goal.invariant-loop-i
