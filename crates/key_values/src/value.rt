@@ -50,6 +50,7 @@ fn is_bool(k: usize) -> bool
 }
 
 // Yes is 1 and No is 0.
+#[tactic(auto, unfolding(crate::specs::Settle::bool_of))]
 fn bool_of(v: &[u8]) -> Number
     ensures { result ≡ bool_of v.now }
 {

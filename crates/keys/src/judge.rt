@@ -42,6 +42,7 @@ fn target_name(ours: &[u8], v: &[u8]) -> Judgement
     }
 }
 
+#[tactic(auto, unfolding(crate::specs::Judge::session_type))]
 fn session_type(v: &[u8]) -> Judgement
     ensures { result ≡ session_type v.now }
 {
@@ -66,6 +67,7 @@ fn by_list(v: &[u8], word: &[u8], said: Reply, other: Judgement) -> Judgement
 }
 
 // The value of key k.
+#[tactic(auto, unfolding(crate::specs::Judge::digest, crate::specs::Judge::task_reporting, crate::specs::Judge::auth_method))]
 fn judge_value(k: usize, ours: &[u8], v: &[u8]) -> Judgement
     requires { k < 28 }
     ensures { result ≡ judge_by (kind_at k) k ours.now v.now }

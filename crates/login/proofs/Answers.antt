@@ -3,7 +3,6 @@ use mathlib.Core.Path.{◌≡◌, refl, sym, ap, ◌∙◌, subst}
 use mathlib.Core.Bool.{Bool, true, false, not, ◌&&◌, ◌||◌}
 use borrow.Author.Tests.{ltb-false, eq-eqb, ne_eqb}
 use mathlib.Core.List.{List, [], ◌∷◌, ◌++◌}
-use mathlib.Core.Logic.{⊎_elim}
 use Prim.Native.Nat.{ℕ, ◌+◌, ◌-◌}
 use native.Mathlib.Omega.{arith}
 use native.Mathlib.Nat.{add-sub_cancel_left}
@@ -44,9 +43,6 @@ use Rattle.request_header.specs.declared.Request.TheVariants as R
 use Rattle.request_header.specs.declared.Limits.{Limits}
 use Rattle.request_header.specs.declared.ReadAnswer.TheVariants as G
 use lib.Dec.{eqb, ltb}
-use types.Run.{OneOf}
-use denote.Enum.Declared.{tag_of}
-use Rattle.request_header.specs.contracts.Request.{the_type}
 use Rattle.login_book.proofs.Reading.{reading}
 
 -- a code's step, with what the areas hold after it
@@ -144,19 +140,13 @@ status-go m s F.Snack e = refl
 pub reading-status : (m : Limits) (s : List ℕ) (f : Refusal) → Read.answer_of (G.Refused f) ≡ read_pdu m s → status f ≡ 0
 reading-status m s f e = status-go m s f (sym e)
 
--- A request that is no Login, by its variant's place.
-not_third : (n : ℕ) → OneOf (0 ∷ 1 ∷ 2 ∷ 4 ∷ 5 ∷ 6 ∷ []) n → n ≡ 3 → ⊥
-not_third n k e =
-    ⊎_elim (λ a. omega arith) (λ b. ⊎_elim (λ a. omega arith) (λ c. ⊎_elim (λ a. omega arith) (λ d. ⊎_elim (λ a. omega arith)
-    (λ f. ⊎_elim (λ a. omega arith) (λ h. omega arith) f) d) c) b) k
-
 -- FIELD for a PDU that is no Login, and for a new handle 0.
 module _ (l : LoginBook) (d : List ℕ) (live new : ℕ) (ours g t : List ℕ) where
-  kind-none : (r : Request) → OneOf (0 ∷ 1 ∷ 2 ∷ 4 ∷ 5 ∷ 6 ∷ []) (tag_of the_type r) → refuse l 3 g t ≡ kind_step r l d live new ours g t
+  kind-none : (r : Request) → ((q : Login) → r ≡ R.Login q → ⊥) → refuse l 3 g t ≡ kind_step r l d live new ours g t
   kind-none (R.NopOut x) k = refl
   kind-none (R.ScsiCommand x) k = refl
   kind-none (R.TaskManagement x) k = refl
-  kind-none (R.Login q) k = absurd (not_third 3 k refl)
+  kind-none (R.Login q) k = absurd (k q refl)
   kind-none (R.DataOut x) k = refl
   kind-none (R.Logout x) k = refl
   kind-none (R.Snack x) k = refl
@@ -190,7 +180,7 @@ module _ (new : ℕ) (pdu : List ℕ) where
       lent = λ q. false-true q;
     }
 
-    pub read-other : OneOf (0 ∷ 1 ∷ 2 ∷ 4 ∷ 5 ∷ 6 ∷ []) (tag_of the_type p.request) → ReadAs new pdu (N.Refused F.Field)
+    pub read-other : ((q : Login) → p.request ≡ R.Login q → ⊥) → ReadAs new pdu (N.Refused F.Field)
     read-other k = record {
       other = refl;
       step = λ l live ours g t. rw (← e) (kind-none l (data_of pdu p) live new ours g t p.request k);

@@ -39,8 +39,8 @@ module _ (s : Keys) (n : ℕ) (o t : List ℕ) (h : n ≤ length o) where
   named-go : (j m : Bool) → named s ≡ m
       → Shown (pick (not j && not (named s)) (stopped 0x0207) (went s (take n o))) s (pick (j || m) (D.Answered n) (D.Refused 0x0207)) t
       (text_after (pick (j || m) (D.Answered n) (D.Refused 0x0207)) o t)
-  named-go true m e = record { result = ap (went s) text-front; few = text-few; text = refl }
-  named-go false true e = rw e (record { result = ap (went s) text-front; few = text-few; text = refl })
+  named-go true m e = record { result = ap (went s) text_front; few = text-few; text = refl }
+  named-go false true e = rw e (record { result = ap (went s) text_front; few = text-few; text = refl })
   named-go false false e = rw e (record { result = refl; few = zero-le; text = refl })
 
 shown-go : (judged : Bool) (s : Keys) (v : Verdict) (o t : List ℕ) → count_of v ≤ length o

@@ -34,22 +34,13 @@ unfolding kind_at known
 returns-in-19 c = rw c.in-19.is
 
 pub returns-in-0-to-11 : goal.returns-in-0-to-11
-returns-in-0-to-11 c = sym (is-negotiated _ c.if-k-lt12.true c.in_default-1.rest.0.0.0.0.0.0.1)
+returns-in-0-to-11 c = sym (is-negotiated c.args.k (omega arith) (λ e. omega arith))
 
 pub returns-in-12 : goal.returns-in-12
-returns-in-12 c = sym (is-digest _ c.if-k-lt14.true c.if-k-lt12.false)
+returns-in-12 c = sym (is-digest c.args.k (omega arith) (omega arith))
 
 pub returns-in-20-to-23 : goal.returns-in-20-to-23
-returns-in-20-to-23 c =
-    let k = c.args.k in
-    let r = c.in_default-1.rest in
-    let a : k ≡ 14 → ⊥ = r.0.0.0.0.0.1 in
-    let b : k ≡ 15 → ⊥ = r.0.0.0.0.1 in
-    let d : k ≡ 16 → ⊥ = r.0.0.0.1 in
-    let e : k ≡ 17 → ⊥ = r.0.0.1 in
-    let f : k ≡ 18 → ⊥ = r.0.1 in
-    let g : k ≡ 19 → ⊥ = r.1 in
-    sym (is-marker k c.if-k-lt24.true (omega (arith, c.if-k-lt14.false)))
+returns-in-20-to-23 c = sym (is-marker c.args.k (omega arith) (omega arith))
 
 pub returns-in_default : goal.returns-in_default
-returns-in_default c = sym (is-refused _ c.requires c.if-k-lt24.false)
+returns-in_default c = sym (is-refused c.args.k c.requires (omega arith))

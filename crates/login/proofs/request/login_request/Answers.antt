@@ -12,8 +12,9 @@ use Rattle.login.proofs.request.login_request.Goals as goal
 pub returns-in-Refused : goal.returns-in-Refused
 returns-in-Refused c = let a = c.args in found-refused a.l a.pdu.now a.live a.new a.ours.now a.gather.now a.text.now _ c.find_login-f.ensures _ c.in-Refused.is
 
+-- the data lies within the PDU
 pub overflow_add-end : goal.overflow_add-end
-overflow_add-end c = omega (arith, inside c, c.well-formed.1.0)
+overflow_add-end c = omega (arith, subst (λ (x : Found). end_of x ≤ length c.args.pdu.now) c.in-Login.is c.find_login-f.ensures.inside)
 
 pub slice_bounds-request_step-count : goal.slice_bounds-request_step-count
 slice_bounds-request_step-count c = le-add_right _ _
@@ -21,7 +22,6 @@ slice_bounds-request_step-count c = le-add_right _ _
 pub slice_bounds-request_step-start : goal.slice_bounds-request_step-start
 slice_bounds-request_step-start c = le-add_right _ _
 
--- the data lies within the PDU
 pub slice_bounds-request_step-end : goal.slice_bounds-request_step-end
 slice_bounds-request_step-end c = subst (λ (x : Found). end_of x ≤ length c.args.pdu.now) c.in-Login.is c.find_login-f.ensures.inside
 

@@ -17,4 +17,4 @@ returns-in-Login c =
     _ c.in-Login.is c.if-new-eq0.false
 
 pub returns-in-Got : goal.returns-in-Got
-returns-in-Got c = read-other _ _ _ (ap Read.answer_of (sym c.in-Got.is) ∙ c.read-answer.ensures) c.in_default.keys2
+returns-in-Got c = read-other _ _ _ (ap Read.answer_of (sym c.in-Got.is) ∙ c.read-answer.ensures) c.in_default.not-Login

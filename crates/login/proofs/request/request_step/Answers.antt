@@ -11,11 +11,6 @@ use borrow.Author.Tests.{ne_eqb}
 use lib.ListN.{length}
 use Rattle.login.proofs.request.request_step.Goals as goal
 
-fits-at : (c : tie.Else1) → (let g = c.before.before.before.before.before.before.args in g.l.gathered + length g.piece.now ≤ 8192)
-fits-at c =
-    let g = c.before.before.before.before.before.before.args in
-    status-fits (book_of g.l) g.q (length g.piece.now) g.live (sym c.before.status-of.ensures ∙ c.if1.false)
-
 pub returns-then-s-ne0 : goal.returns-then-s-ne0
 unfolding request_step
 returns-then-s-ne0 c =
@@ -26,11 +21,11 @@ returns-then-s-ne0 c =
 pub append-n-requires : goal.append-n-requires
 append-n-requires c =
     let p = c.requires in
-    omega (arith, fits-at c, p.0, p.1)
+    omega (arith, status-fits (book_of c.args.l) c.args.q (length c.args.piece.now) c.args.live (sym c.status_of-s.ensures ∙ c.if-s-ne0.false), p.0, p.1)
 
 pub gathered_step-requires : goal.gathered_step-requires
 gathered_step-requires c =
-    subst (λ (n : ℕ). n ≤ 8192) (sym c.append-n.ensures.count) (fits-at c)
+    subst (λ (n : ℕ). n ≤ 8192) (sym c.append-n.ensures.count) (status-fits (book_of c.args.l) c.args.q (length c.args.piece.now) c.args.live (sym c.status_of-s.ensures ∙ c.if-s-ne0.false))
 
 pub returns-then-q : goal.returns-then-q
 unfolding request_step
@@ -43,7 +38,7 @@ returns-then-q c =
 pub judge_request-j-requires : goal.judge_request-j-requires
 judge_request-j-requires c =
     let p = c.requires in
-    (p.0, p.1, fits-at c)
+    (p.0, p.1, status-fits (book_of c.args.l) c.args.q (length c.args.piece.now) c.args.live (sym c.status_of-s.ensures ∙ c.if-s-ne0.false))
 
 pub returns : goal.returns
 unfolding request_step

@@ -22,7 +22,7 @@ judge_text-j-requires c = c.requires.1
 pub undo-requires : goal.undo-requires
 undo-requires c =
     let j = c.join-total.auto in
-    (omega (arith, c.requires, j.0), omega (arith, c.requires, j.1.1.1.0))
+    (omega (arith, c.requires, j.gather), omega (arith, c.requires, j.kept))
 
 pub returns : goal.returns
 returns c =

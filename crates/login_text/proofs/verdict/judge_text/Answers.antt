@@ -30,6 +30,6 @@ returns c =
     let j = c.judge_block-v in
     let m = c.start_text-at in
     let s = c.args.s in
-    let t = settled_of j.new.0 j.new.1.0 in
+    let t = settled_of j.new.seen j.new.values in
     let n = c.is_named.ensures ∙ names_at t in
     written-by _ _ _ _ s _ _ _ t _ _ _ _ _ _ _ m.ensures.text j.ensures n p.0 p.1 c.settled_after-settled.ensures
