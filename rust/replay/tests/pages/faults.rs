@@ -10,9 +10,9 @@ pub const ALL: &[Fault] = &[
     // ---- RULES.md: after a file; further in its list; in parentheses after it; before it; without one; of another section's file
     (
         "docs/RULES.md",
-        "`keys/specs/Judge`: `initiatorName`",
-        "`keys/specs/Judge`: `initiatorNam`",
-        "initiatorNam`",
+        "`keys/specs/Judge`: `initiator_name`",
+        "`keys/specs/Judge`: `initiator_nam`",
+        "initiator_nam`",
     ),
     (
         "docs/RULES.md",
@@ -23,15 +23,15 @@ pub const ALL: &[Fault] = &[
     (
         "docs/RULES.md",
         "`ledger/specs/Book` (`sending`",
-        "`ledger/specs/Book` (`bookStep`",
-        "`bookStep`",
+        "`ledger/specs/Book` (`book_step`",
+        "`book_step`",
     ),
     ("docs/RULES.md", "`starred` in", "`starry` in", "`starry`"),
     (
         "docs/RULES.md",
-        "(`statedLength`)",
-        "(`statedLengths`)",
-        "`statedLengths`",
+        "(`stated_length`)",
+        "(`stated_lengths`)",
+        "`stated_lengths`",
     ),
     (
         "docs/RULES.md",
@@ -39,7 +39,7 @@ pub const ALL: &[Fault] = &[
         "| `balanced` |",
         "`balanced`",
     ),
-    ("docs/RULES.md", "(`runAt`)", "(`judgeKey`)", "`judgeKey`"),
+    ("docs/RULES.md", "(`run_at`)", "(`judge_key`)", "`judge_key`"),
     (
         "docs/RULES.md",
         "`book/specs/Effects`",
@@ -157,9 +157,9 @@ pub const ALL: &[Fault] = &[
     ),
     (
         "docs/PROOF.md",
-        "everything equals `loginStep`",
-        "everything equals `loginSteps`",
-        "`loginSteps`",
+        "everything equals `login_step`",
+        "everything equals `login_steps`",
+        "`login_steps`",
     ),
     // ---- ARCHITECTURE.md: a file beside another, a crate that isn't there, one that lacks, one twice, a path
     (

@@ -25,8 +25,8 @@ fn checks(name: &str) -> Vec<Check> {
         "docs/ARCHITECTURE.md" => checks.extend([missing as Check, crates_amiss]),
         "docs/SCRIPT.md" => checks.extend([missing as Check, example_amiss, long_lines]),
         "docs/DECISIONS.md" => checks.push(missing),
-        // It tells of what was.
-        "docs/CHANGES.md" => {}
+        // They tell of what was.
+        "docs/CHANGES.md" | "docs/PORT.md" => {}
         _ => panic!("{name} has no checks"),
     }
     checks

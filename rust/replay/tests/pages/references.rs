@@ -48,7 +48,7 @@ pub fn code_of(text: &str) -> Option<(&str, &str)> {
 
 /// Whether a quote can be the name of a definition.
 pub fn is_name(text: &str) -> bool {
-    let letter = |c: char| c.is_ascii_alphanumeric() || c == '-';
+    let letter = |c: char| c.is_ascii_alphanumeric() || "-_".contains(c);
     text.starts_with(|c: char| c.is_ascii_alphabetic()) && text.chars().all(letter)
 }
 

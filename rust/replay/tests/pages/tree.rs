@@ -11,9 +11,10 @@ const PLACEHOLDERS: [&str; 3] = ["CRATE", "NAME", "FUNCTION"];
 pub fn crates() -> BTreeSet<String> {
     let text = fs::read_to_string(root().join("crates.txt")).unwrap();
     let lines = text.lines().filter(|line| !line.starts_with('#'));
+    // A static library has that word after its name.
     lines
         .filter_map(|line| line.split_once(':'))
-        .map(|(name, _)| name.to_owned())
+        .map(|(name, _)| name.trim_end_matches(" staticlib").to_owned())
         .collect()
 }
 
