@@ -39,7 +39,12 @@ pub const ALL: &[Fault] = &[
         "| `balanced` |",
         "`balanced`",
     ),
-    ("docs/RULES.md", "(`run_at`)", "(`judge_key`)", "`judge_key`"),
+    (
+        "docs/RULES.md",
+        "(`run_at`)",
+        "(`judge_key`)",
+        "`judge_key`",
+    ),
     (
         "docs/RULES.md",
         "`book/specs/Effects`",
