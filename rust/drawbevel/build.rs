@@ -40,8 +40,14 @@ fn made(root: &Path) -> PathBuf {
     let archive = folder.join(ARCHIVE);
     let stamp = folder.join(SOURCES);
     let parts = parts_of(&crates);
-    for file in [&list, &archive, &stamp].into_iter().chain(&parts) {
+    for file in [&list, &archive, &stamp] {
         println!("cargo::rerun-if-changed={}", file.display());
+    }
+    for part in &parts {
+        // In place of a part that a crate doesn't have, its folder, in which the part may come.
+        let folder = part.parent().expect("a crate's folder");
+        let watched = if part.is_dir() { part } else { folder };
+        println!("cargo::rerun-if-changed={}", watched.display());
     }
     let digest = digest_of(root, &list, &parts);
     let is_of_these = fs::read_to_string(&stamp).is_ok_and(|of| of == digest);
@@ -76,15 +82,13 @@ fn digest_of(root: &Path, list: &Path, parts: &[PathBuf]) -> String {
     format!("{:016x}\n", digest.finish())
 }
 
-/// The folders of every crate that are proved.
+/// The folders of every crate that are proved, also where there is none.
 fn parts_of(crates: &Path) -> Vec<PathBuf> {
     let entries = fs::read_dir(crates)
         .unwrap_or_else(|error| fail(&format!("cannot read {}: {error}", crates.display())));
-    let folders: Vec<_> = entries.flatten().map(|entry| entry.path()).collect();
-    let parts = folders
-        .iter()
-        .flat_map(|folder| PARTS.map(|part| folder.join(part)));
-    parts.filter(|part| part.is_dir()).collect()
+    let folders = entries.flatten().map(|entry| entry.path());
+    let parts = folders.flat_map(|folder| PARTS.map(|part| folder.join(part)));
+    parts.collect()
 }
 
 fn sources(folder: &Path, files: &mut Vec<PathBuf>) {
