@@ -1,5 +1,7 @@
-// What the programs write: texts with numbers in them, and of a few texts the one of a number. What they read is searched here for
-// the end of a line or of a word.
+// What the programs write: texts with numbers in them, and of a few texts the one of a number. What they read is brought into a
+// buffer, and searched for the end of a line or of a word.
+//
+// A program lends its writer to each function that writes. None of them hides a read or a write that failed.
 #![tactic(auto)]
 
 ghost use Rattle.std.specs.Prelude.{◌≡◌, ◌+◌, ◌≤◌, min, length, IfOk, OnOk};
