@@ -10,15 +10,6 @@ returns-then-n-lt8 c = too_short c.args.name.now c.if-n-lt8.true
 pub returns-then-n-gt24 : goal.returns-then-n-gt24
 returns-then-n-gt24 c = too_long c.args.name.now c.if-n-gt24.true
 
-pub overflow_cast-first : goal.overflow_cast-first
-overflow_cast-first c = omega (arith, c.shared_slice_known-2-1.given 0)
-
-pub overflow_add-first : goal.overflow_add-first
-overflow_add-first c = omega (arith, c.shared_slice_known-2-1.given 0)
-
-pub overflow_cast-first-2 : goal.overflow_cast-first-2
-overflow_cast-first-2 c = let n = c.args.name.now in omega (arith, place-few n)
-
 pub returns-then-first-eq-KNOWN : goal.returns-then-first-eq-KNOWN
 returns-then-first-eq-KNOWN c = nothing-there c.args.name.now _ refl c.if-first-eq-KNOWN.true
 

@@ -8,9 +8,6 @@ use Prim.Native.Nat.{ℕ, ◌-◌}
 use native.Mathlib.Omega.{arith}
 use Rattle.key_lookup.proofs.key_of.Goals as goal
 
-pub loop-i-init : goal.loop-i-init
-loop-i-init c = (omega arith, none_yet c.args.name.now)
-
 pub returns-then-k-eq-KNOWN : goal.returns-then-k-eq-KNOWN
 returns-then-k-eq-KNOWN c =
     let n = c.args.name.now in

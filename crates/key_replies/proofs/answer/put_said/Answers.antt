@@ -5,16 +5,6 @@ use Rattle.text.proofs.Laws.{appended-none, appended_then}
 use native.Mathlib.Omega.{arith}
 use Rattle.key_replies.proofs.answer.put_said.Goals as goal
 
-pub returns-then-to-eq0 : goal.returns-then-to-eq0
-returns-then-to-eq0 c =
-    let g = c.args in
-    rw (said-none g.start.now (reply_in g.j) c.said_in-s.ensures c.if-to-eq0.true) (appended-none _ _)
-
-pub put_reply-requires : goal.put_reply-requires
-put_reply-requires c =
-    let a = c.append-a in
-    (omega (arith, a.ensures.count, a.auto, c.requires), said-in-words c.args.start.now (reply_in c.args.j) c.said_in-s.ensures)
-
 pub returns : goal.returns
 returns c =
     let g = c.args in

@@ -2,12 +2,6 @@
 use Rattle.key_values.specs.Settle.{settling, offered}
 use Rattle.key_values.proofs.value.settle.Goals as goal
 
-pub row_of-row-requires : goal.row_of-row-requires
-row_of-row-requires c = c.requires
-
-pub is_bool-requires : goal.is_bool-requires
-is_bool-requires c = c.requires
-
 pub returns-in-Bad : goal.returns-in-Bad
 unfolding settling offered
 returns-in-Bad c =

@@ -3,19 +3,10 @@ use Rattle.keys.proofs.Standing.{key-refused, key-judged}
 use mathlib.Core.Path.{◌∙◌}
 use Rattle.keys.proofs.judge.judge_key.Goals as goal
 
-pub may_stand-requires : goal.may_stand-requires
-may_stand-requires c = c.requires
-
-pub only_leading-requires : goal.only_leading-requires
-only_leading-requires c = c.requires
-
 pub returns-then-may_stand-only_leading : goal.returns-then-may_stand-only_leading
 returns-then-may_stand-only_leading c =
     let g = c.args in
     key-refused g.seen g.stage g.leading g.ours.now g.k g.v.now c.may_stand.ensures c.only_leading.ensures c.if-may_stand-only_leading.true
-
-pub judge_value-requires : goal.judge_value-requires
-judge_value-requires c = c.requires
 
 pub returns : goal.returns
 returns c =

@@ -15,6 +15,3 @@ pub returns-in-Login : goal.returns-in-Login
 returns-in-Login c =
     read-got _ _ _ (ap Read.answer_of (sym c.in-Got.is) ∙ c.read-answer.ensures)
     _ c.in-Login.is c.if-new-eq0.false
-
-pub returns-in-Got : goal.returns-in-Got
-returns-in-Got c = read-other _ _ _ (ap Read.answer_of (sym c.in-Got.is) ∙ c.read-answer.ensures) c.in_default.not-Login

@@ -15,9 +15,6 @@ returns-then-q-gt0 c = let a = c.args in status-version a.l a.q a.n a.live (lt-l
 pub returns-then-q-live : goal.returns-then-q-live
 returns-then-q-live c = let a = c.args in status-handle a.l a.q a.n a.live (le-ltb _ _ c.if-q-gt0.false) c.if-q-live.true
 
-pub overflow_add-broken : goal.overflow_add-broken
-overflow_add-broken c = omega (arith, c.ranges, c.requires)
-
 pub returns-then-broken : goal.returns-then-broken
 returns-then-broken c =
     let a = c.args in

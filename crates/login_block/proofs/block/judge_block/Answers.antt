@@ -19,20 +19,6 @@ use Rattle.login_block.proofs.Blocks.{pairs_end, turn-stop, turn_on, stop-status
 use Rattle.login_block.proofs.Blocks.{turn-within, turn-next, turn-less, all_short, walk-stop, walk-on, walk-bad, walk_none, end-bad, judged-as}
 use Rattle.login_block.proofs.block.judge_block.Goals as goal
 
-pub loop-at-init : goal.loop-at-init
-loop-at-init c = record {
-  within = zero-le;
-  turns = zero-le;
-  area = refl;
-  table = refl;
-  short = le-add_right _ _;
-  form = refl;
-  judged = refl;
-  known = c.requires.2;
-  walked = refl;
-  rest = refl;
-}
-
 pub returns-then-n-eq-MAX_PAIRS : goal.returns-then-n-eq-MAX_PAIRS
 returns-then-n-eq-MAX_PAIRS c =
     let l = c.loop-at in
@@ -42,12 +28,6 @@ returns-then-n-eq-MAX_PAIRS c =
     let room = all_short _ _ _ _ l.n l.invariant.turns c.requires.0 l.invariant.area l.invariant.short in
     judged-as _ _ _ _ _ _ _ _ _ _ l.count (sym (walk_none _ _ _ _ _ _ _ e) ∙ l.invariant.walked) room l.invariant.rest
     (sym (past (formed 64 b) _ _ _ f refl)) zero-le
-
-pub judge_first-f-requires : goal.judge_first-f-requires
-judge_first-f-requires c =
-    let l = c.loop-at in
-    let p = c.requires in
-    (turn-room _ l.invariant.turns c.if-n-eq-MAX_PAIRS.false _ _ _ _ p.0 l.invariant.area l.invariant.short, l.invariant.table ∙ p.1, l.invariant.known)
 
 pub returns-then-not-f : goal.returns-then-not-f
 returns-then-not-f c =
@@ -85,16 +65,6 @@ returns-in-Stops c =
     let room = all_short _ _ _ _ (l.n + 1) (turn-counted l.n l.invariant.turns more) c.requires.0 (o.auto.out ∙ l.invariant.area) short in
     judged-as _ _ _ _ _ _ _ _ _ _ o.result.count (rw (f.text.text, f.settles) w) room (appended-rest _ f.text l.invariant.rest)
     (ap stopped c.pair_status.ensures ∙ stop-status (formed 64 b) _ _ e) zero-le
-
--- a good pair lies within the block
-pub overflow_add-at : goal.overflow_add-at
-overflow_add-at c = let o = rw rest_part at c.judge_first-f.ensures.1 in omega (arith, turn-within c.args.block.now c.loop-at.at c.judge_first-f.result.end (o.good (not-false _ c.if-not-f.false)).inside)
-
-pub overflow_add-at-in-Goes : goal.overflow_add-at-in-Goes
-overflow_add-at-in-Goes c = let o = rw rest_part at c.judge_first-f.ensures.1 in omega (arith, turn-within c.args.block.now c.loop-at.at c.judge_first-f.result.end (o.good (not-false _ c.if-not-f.false)).inside)
-
-pub loop-at-smaller : goal.loop-at-smaller
-loop-at-smaller c = let o = rw rest_part at c.judge_first-f.ensures.1 in turn-less _ _ _ (turn-within _ _ _ (o.good (not-false _ c.if-not-f.false)).inside)
 
 pub loop-at-preserved : goal.loop-at-preserved
 loop-at-preserved c =

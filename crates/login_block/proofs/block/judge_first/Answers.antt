@@ -47,11 +47,6 @@ module _ (s : List ℕ) (p : Pair) (f : PairOf s p) (ok : p.ok ≡ true) where
   reaches : p.eq + 1 ≤ length s
   reaches = omega (arith, within, in_order)
 
-pub returns-then-not-p : goal.returns-then-not-p
-returns-then-not-p c =
-    let r = sym (not-true _ c.if-not-p.true) ∙ c.pair_in-p.ensures.right in
-    (c.requires.2, record { right = r; good = λ e. false-true e; bad = λ _. record { keys = refl; bytes = refl } })
-
 pub overflow_add-eq : goal.overflow_add-eq
 overflow_add-eq c = omega (arith, reaches c.args.rest.now c.pair_in-p.result c.pair_in-p.ensures (not-false _ c.if-not-p.false))
 

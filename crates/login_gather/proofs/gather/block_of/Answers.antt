@@ -5,9 +5,6 @@ use Prim.Native.Nat.{◌-◌}
 use borrow.Author.Tests.{eq-eqb, ne_eqb}
 use Rattle.login_gather.proofs.gather.block_of.Goals as goal
 
-pub slice_bounds-result-end : goal.slice_bounds-result-end
-slice_bounds-result-end c = sym (length-take-le _ _ c.requires)
-
 pub returns-then-gathered-eq0 : goal.returns-then-gathered-eq0
 unfolding block_of
 returns-then-gathered-eq0 c = rw (eq-eqb _ _ c.if-gathered-eq0.true)

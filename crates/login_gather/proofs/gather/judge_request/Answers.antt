@@ -7,22 +7,11 @@ use native.Mathlib.Omega.{arith}
 use borrow.Author.Tests.{eq-eqb}
 use Rattle.login_gather.proofs.gather.judge_request.Goals as goal
 
-pub judge_text-requires : goal.judge_text-requires
-judge_text-requires c = c.requires.1
-
 pub returns-then-at-eq0 : goal.returns-then-at-eq0
 unfolding block_of
 returns-then-at-eq0 c =
     let e = eq-eqb _ 0 c.if-at-eq0.true in
     judged-own _ _ _ _ _ _ _ _ _ _ _ e (rw (c.block_of.ensures, e) at c.judge_text.ensures)
-
-pub judge_text-j-requires : goal.judge_text-j-requires
-judge_text-j-requires c = c.requires.1
-
-pub undo-requires : goal.undo-requires
-undo-requires c =
-    let j = c.join-total.auto in
-    (omega (arith, c.requires, j.gather), omega (arith, c.requires, j.kept))
 
 pub returns : goal.returns
 returns c =

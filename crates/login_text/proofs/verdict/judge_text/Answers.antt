@@ -18,12 +18,6 @@ judge_block-v-requires c =
     let k : length a.s.seen ≡ 28 = search rules in
     (omega (arith, e, m.ensures.count, m.auto), v, k)
 
-pub put_answer-verdict-requires : goal.put_answer-verdict-requires
-put_answer-verdict-requires c =
-    let m = c.start_text-at in
-    let p = c.requires in
-    (c.judge_block-v.ensures.few, omega (arith, c.judge_block-v.auto, m.auto, p))
-
 pub returns : goal.returns
 returns c =
     let p = c.put_answer-verdict.ensures in

@@ -7,24 +7,9 @@ use Rattle.text_block.specs.Block.{name_byte}
 use Rattle.text.proofs.Laws.{all-step, all-miss, all_end}
 use Rattle.text_block.proofs.block.tail_good.Goals as goal
 
-pub loop-i-init : goal.loop-i-init
-loop-i-init c = (omega arith, refl)
-
-pub bounds-s-i : goal.bounds-s-i
-bounds-s-i c = omega arith
-
-pub is_name_byte-requires : goal.is_name_byte-requires
-is_name_byte-requires c = tt
-
 pub returns-then-not-is_name_byte : goal.returns-then-not-is_name_byte
 returns-then-not-is_name_byte c =
     sym (all-miss name_byte _ c.loop-i.i (omega arith) (sym c.is_name_byte.ensures ∙ c.if-not-is_name_byte.true)) ∙ c.loop-i.invariant.1
-
-pub overflow_add-i : goal.overflow_add-i
-overflow_add-i c = omega arith
-
-pub loop-i-smaller : goal.loop-i-smaller
-loop-i-smaller c = omega arith
 
 pub loop-i-preserved : goal.loop-i-preserved
 loop-i-preserved c =

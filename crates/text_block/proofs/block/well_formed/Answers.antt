@@ -19,9 +19,6 @@ inside s at p f ok =
     let w = good-whole (drop at s) (sym f.right ∙ ok) in
     omega (arith, f.value, whole-ends (drop at s) w, whole-inside (drop at s) w, length-drop at s)
 
-pub loop-at-init : goal.loop-at-init
-loop-at-init c = (omega arith, omega arith, refl)
-
 pub returns-then-n-eq-MAX_PAIRS : goal.returns-then-n-eq-MAX_PAIRS
 returns-then-n-eq-MAX_PAIRS c =
     let l = c.loop-at in
@@ -40,9 +37,6 @@ overflow_add-at c = omega (arith, inside c.args.s.now c.loop-at.at c.first_pair-
 
 pub overflow_add-at-in-loop-at : goal.overflow_add-at-in-loop-at
 overflow_add-at-in-loop-at c = omega (arith, inside c.args.s.now c.loop-at.at c.first_pair-p.result (rw rest_part at c.first_pair-p.ensures) (not-false _ c.if-not-p.false))
-
-pub loop-at-smaller : goal.loop-at-smaller
-loop-at-smaller c = omega (arith, inside c.args.s.now c.loop-at.at c.first_pair-p.result (rw rest_part at c.first_pair-p.ensures) (not-false _ c.if-not-p.false))
 
 pub loop-at-preserved : goal.loop-at-preserved
 loop-at-preserved c =

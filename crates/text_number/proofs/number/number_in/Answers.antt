@@ -14,15 +14,6 @@ pub returns-then-s-eq0 : goal.returns-then-s-eq0
 unfolding number_in
 returns-then-s-eq0 c = rw c.if-s-eq0.true
 
-pub loop-i-init : goal.loop-i-init
-loop-i-init c = (omega arith, omega arith, refl, refl)
-
-pub bounds-s-i : goal.bounds-s-i
-bounds-s-i c = omega arith
-
-pub digit-d-requires : goal.digit-d-requires
-digit-d-requires c = tt
-
 pub returns-then-base-d : goal.returns-then-base-d
 returns-then-base-d c =
     let l = c.loop-i in
@@ -30,12 +21,6 @@ returns-then-base-d c =
     let d : digit_of (get_or g.s.now l.i 0) ≡ c.digit-d.result = sym c.digit-d.ensures in
     let m : all (is_digit g.base) (drop l.i g.s.now) ≡ false = all-miss (is_digit g.base) g.s.now l.i (omega arith) (rw d (le-ltb _ _ c.if-base-d.true)) in
     sym (number-other g.base g.s.now (sym l.invariant.2 ∙ m))
-
-pub overflow_sub-d : goal.overflow_sub-d
-overflow_sub-d c = omega arith
-
-pub nonzero_div-d : goal.nonzero_div-d
-nonzero_div-d c = omega arith
 
 pub returns-then-d-base : goal.returns-then-d-base
 returns-then-d-base c =
@@ -46,20 +31,6 @@ returns-then-d-base c =
     let o : 0xffff_ffff_ffff_ffff < l.v * g.base + c.digit-d.result = digit-over l.v g.base c.digit-d.result 0xffff_ffff_ffff_ffff c.requires.0 (omega arith) c.if-d-base.true in
     let o2 : 0xffff_ffff_ffff_ffff < l.v * g.base + digit_of (get_or g.s.now l.i 0) = rw (← d) o in
     sym (number-large g.base g.s.now (omega (arith, o2, w, l.invariant.3, worth-grows g.base (l.v * g.base + digit_of (get_or g.s.now l.i 0)) (drop (l.i + 1) g.s.now) c.requires.0)))
-
-pub overflow_mul-v : goal.overflow_mul-v
-overflow_mul-v c =
-    omega (arith, digit-fits c.loop-i.v c.args.base c.digit-d.result 0xffff_ffff_ffff_ffff c.requires.0 (omega arith) c.if-d-base.false)
-
-pub overflow_add-v : goal.overflow_add-v
-overflow_add-v c =
-    omega (arith, digit-fits c.loop-i.v c.args.base c.digit-d.result 0xffff_ffff_ffff_ffff c.requires.0 (omega arith) c.if-d-base.false)
-
-pub overflow_add-i : goal.overflow_add-i
-overflow_add-i c = omega arith
-
-pub loop-i-smaller : goal.loop-i-smaller
-loop-i-smaller c = omega arith
 
 pub loop-i-preserved : goal.loop-i-preserved
 loop-i-preserved c =

@@ -13,22 +13,13 @@ ten = (omega arith, omega arith)
 sixteen : (1 ≤ 16) × (16 ≤ 16)
 sixteen = (omega arith, omega arith)
 
-pub number_in-requires : goal.number_in-requires
-number_in-requires c = ten
-
 pub returns-then-s-lt2 : goal.returns-then-s-lt2
 unfolding number_of
 returns-then-s-lt2 c = simp (lt-leb _ _ c.if-s-lt2.true, c.number_in.ensures)
 
-pub number_in-requires-then-s-ne48 : goal.number_in-requires-then-s-ne48
-number_in-requires-then-s-ne48 c = ten
-
 pub returns-then-s-ne48 : goal.returns-then-s-ne48
 unfolding number_of
 returns-then-s-ne48 c = simp (le-leb _ _ c.if-s-lt2.false, ne_eqb _ _ c.if-s-ne48.true, c.number_in-then-s-ne48.ensures)
-
-pub number_in-requires-then-x : goal.number_in-requires-then-x
-number_in-requires-then-x c = sixteen
 
 pub returns-then-x : goal.returns-then-x
 unfolding number_of

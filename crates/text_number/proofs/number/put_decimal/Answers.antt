@@ -18,12 +18,6 @@ whole l i r n low last long same =
     let k : length (drop i d) ≤ 10 - i = rw (length-drop, length-set) (omega arith) in
     take_all (10 - i) (drop i d) k ∙ sym (decimal-last l i r (omega arith) last) ∙ same
 
-pub loop-rest-init : goal.loop-rest-init
-loop-rest-init c = (omega arith, omega arith, refl, append-nil _)
-
-pub overflow_sub-i : goal.overflow_sub-i
-overflow_sub-i c = decimal-more c.loop-rest.rest c.loop-rest.i c.loop-rest-test.true c.loop-rest.invariant.1
-
 pub loop-rest-preserved : goal.loop-rest-preserved
 loop-rest-preserved c =
     let l = c.loop-rest in
@@ -31,11 +25,6 @@ loop-rest-preserved c =
     let e : l.i - 1 + 1 ≡ l.i = omega arith in
     let p : l.rest < 10 ^ l.i * 10 = rw (add-one, pow-suc) at l.invariant.1 in
     (omega arith, rw e (omega arith), simp length-set l.invariant.2, rw e (sym (decimal_step l.digits l.i l.rest (omega arith) c.loop-rest-test.true) ∙ l.invariant.3))
-
-pub append-requires : goal.append-requires
-append-requires c =
-    let l = c.loop-rest in
-    rw (whole l.digits l.i l.rest c.args.n l.invariant.0 c.loop-rest-test.false l.invariant.2 l.invariant.3) (omega (arith, decimal-length 10 c.args.n))
 
 pub returns : goal.returns
 returns c =
