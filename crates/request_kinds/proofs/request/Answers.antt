@@ -4,27 +4,27 @@ use Rattle.request_kinds.proofs.request.Goals as goal
 
 pub returns-in-0 : goal.returns-in-0
 unfolding request_of
-returns-in-0 c = rw (c.in-0.is, c.nop_out.ensures)
+returns-in-0 c = rw c.in-0.is (cc)
 
 pub returns-in-1 : goal.returns-in-1
 unfolding request_of
-returns-in-1 c = rw (c.in-1.is, c.scsi_command.ensures)
+returns-in-1 c = rw c.in-1.is (cc)
 
 pub returns-in-2 : goal.returns-in-2
 unfolding request_of
-returns-in-2 c = rw (c.in-2.is, c.task_management.ensures)
+returns-in-2 c = rw c.in-2.is (cc)
 
 pub returns-in-3 : goal.returns-in-3
 unfolding request_of
-returns-in-3 c = rw (c.in-3.is, c.login.ensures)
+returns-in-3 c = rw c.in-3.is (cc)
 
 pub returns-in-5 : goal.returns-in-5
 unfolding request_of
-returns-in-5 c = rw (c.in-5.is, c.data_out.ensures)
+returns-in-5 c = rw c.in-5.is (cc)
 
 pub returns-in-6 : goal.returns-in-6
 unfolding request_of
-returns-in-6 c = rw (c.in-6.is, c.logout.ensures)
+returns-in-6 c = rw c.in-6.is (cc)
 
 pub returns-in_default : goal.returns-in_default
 unfolding request_of
