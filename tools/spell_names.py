@@ -28,6 +28,22 @@ EXCEPT = {
     "leftBy": "left_after",
     "goesOn": "stage_goes_on",
     "runStep": "step_of_run",
+    "isNumbered": "is_numbered_pdu",
+}
+
+# Names that are declared inside a module, and constructors that share a line, by crate.
+INNER = {
+    "login_book": ["keysAfter", "keysThen", "textThen", "stepBy"],
+    "header_tables": [
+        "nopOut",
+        "scsiCommand",
+        "taskManagement",
+        "nopIn",
+        "scsiResponse",
+        "taskManagementResponse",
+        "loginResponse",
+        "logoutResponse",
+    ],
 }
 
 DECLARED = re.compile(r"(?m)^(?:abbrev |unfoldable |pub |open )*([^\s:(){}.,=]+)(?: \([^)]*\)| \{[^}]*\})* : ")
@@ -88,6 +104,8 @@ def main():
     for path in files((".antt", ".rt", ".edit")):
         text = read(path)
         new = whole.sub(lambda m: names[m.group(1)], text)
+        for name in INNER.get(path.split(os.sep)[1], []):
+            new = re.sub(WORD % name, snake(name), new)
         if not path.endswith(".rt"):
             new = placed.sub(lambda m: m.group(1) + labels[m.group(2)], new)
         if path == "crates/session_state/proofs/Steps.antt":

@@ -11,7 +11,7 @@ use lib.Dec.{T, eqb, ltb, lit<}
 use lib.ListN.{length, get_or}
 use Rattle.field.specs.Field.{be_at, bytes_of, pick, bit, byte}
 use Rattle.header_tables.specs.Table.{Fits, sound, written, read_by, count, named, filled}
-use Rattle.header_tables.specs.Layout.{Kind, nopOut, scsiCommand, taskManagement, login, data_out, logout, snack, nopIn, scsiResponse, taskManagementResponse, loginResponse, data_in, logoutResponse, r2t, reject, table_of, bit_of, response_kind, request_kind, response_fields, request_fields, ResponseFits, NumbersFit}
+use Rattle.header_tables.specs.Layout.{Kind, nop_out, scsi_command, task_management, login, data_out, logout, snack, nop_in, scsi_response, task_management_response, login_response, data_in, logout_response, r2t, reject, table_of, bit_of, response_kind, request_kind, response_fields, request_fields, ResponseFits, NumbersFit}
 use Rattle.response_header.specs.Response.{header_bytes, kind_fields, weigh, refusal_in, data_length_in, is_too_long, fields_fit}
 use Rattle.request_header.specs.Request.{read_pdu, got, known, opcode_of, shared_ok, pdu_of, request_of}
 use Rattle.request_header.specs.declared.Limits.{Limits}
@@ -24,19 +24,19 @@ use Rattle.request_header.proofs.FieldRules.{known-last}
 use Rattle.header_tables.proofs.Table.{back, named-filled}
 
 pub sound-all : (k : Kind) → T (sound 0 (table_of k))
-sound-all nopOut = tt
-sound-all scsiCommand = tt
-sound-all taskManagement = tt
+sound-all nop_out = tt
+sound-all scsi_command = tt
+sound-all task_management = tt
 sound-all login = tt
 sound-all data_out = tt
 sound-all logout = tt
 sound-all snack = tt
-sound-all nopIn = tt
-sound-all scsiResponse = tt
-sound-all taskManagementResponse = tt
-sound-all loginResponse = tt
+sound-all nop_in = tt
+sound-all scsi_response = tt
+sound-all task_management_response = tt
+sound-all login_response = tt
 sound-all data_in = tt
-sound-all logoutResponse = tt
+sound-all logout_response = tt
 sound-all r2t = tt
 sound-all reject = tt
 

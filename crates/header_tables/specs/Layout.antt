@@ -13,23 +13,23 @@ use Rattle.response_header.specs.declared.Response.{Response}
 use Rattle.response_header.specs.declared.Response.TheVariants as R
 
 pub data Kind : Type 0 where
-  nopOut scsiCommand taskManagement login data_out logout snack : Kind
-  nopIn scsiResponse taskManagementResponse loginResponse data_in logoutResponse r2t reject : Kind
+  nop_out scsi_command task_management login data_out logout snack : Kind
+  nop_in scsi_response task_management_response login_response data_in logout_response r2t reject : Kind
 
 abbrev pub opcode : Kind → ℕ
-opcode nopOut = 0x00
-opcode scsiCommand = 0x01
-opcode taskManagement = 0x02
+opcode nop_out = 0x00
+opcode scsi_command = 0x01
+opcode task_management = 0x02
 opcode login = 0x03
 opcode data_out = 0x05
 opcode logout = 0x06
 opcode snack = 0x10
-opcode nopIn = 0x20
-opcode scsiResponse = 0x21
-opcode taskManagementResponse = 0x22
-opcode loginResponse = 0x23
+opcode nop_in = 0x20
+opcode scsi_response = 0x21
+opcode task_management_response = 0x22
+opcode login_response = 0x23
 opcode data_in = 0x25
-opcode logoutResponse = 0x26
+opcode logout_response = 0x26
 opcode r2t = 0x31
 opcode reject = 0x3f
 
@@ -55,15 +55,15 @@ numbers rs = whole 24 4 ∷ whole 28 4 ∷ whole 32 4 ∷ rs
 
 abbrev pub table_of : Kind → List Row
 -- LUN, ITT, TTT, CmdSN, ExpStatSN
-table_of nopOut =
+table_of nop_out =
     request ∷ plain ∷ blank 2 2 ∷ lengths
     (whole 8 8 ∷ whole 16 4 ∷ whole 20 4 ∷ whole 24 4 ∷ whole 28 4 ∷ blank 32 16 ∷ [])
 -- attribute, unnamed, W, R, F; LUN, ITT, Expected Data Transfer Length, CmdSN, ExpStatSN, the CDB in two halves
-table_of scsiCommand =
+table_of scsi_command =
     request ∷ row 1 1 (field 3 ∷ unnamed 2 ∷ field 1 ∷ field 1 ∷ field 1 ∷ []) ∷ blank 2 2 ∷ lengths
     (whole 8 8 ∷ whole 16 4 ∷ whole 20 4 ∷ whole 24 4 ∷ whole 28 4 ∷ whole 32 8 ∷ whole 40 8 ∷ [])
 -- function, 1; LUN, ITT, Referenced Task Tag, CmdSN, ExpStatSN, RefCmdSN, ExpDataSN
-table_of taskManagement =
+table_of task_management =
     request ∷ row 1 1 (field 7 ∷ field 1 ∷ []) ∷ blank 2 2 ∷ lengths
     (whole 8 8 ∷ whole 16 4 ∷ whole 20 4 ∷ whole 24 4 ∷ whole 28 4 ∷ whole 32 4 ∷ whole 36 4 ∷ blank 40 8 ∷ [])
 -- NSG, CSG, unnamed, C, T; Version-max, Version-min; ISID, TSIH, ITT, CID, CmdSN, ExpStatSN
@@ -83,19 +83,19 @@ table_of snack =
     bare ∷ row 1 1 (field 4 ∷ unnamed 3 ∷ field 1 ∷ []) ∷ blank 2 2 ∷ lengths
     (whole 8 8 ∷ whole 16 4 ∷ whole 20 4 ∷ blank 24 4 ∷ whole 28 4 ∷ blank 32 8 ∷ whole 40 4 ∷ whole 44 4 ∷ [])
 -- LUN, ITT, TTT
-table_of nopIn =
+table_of nop_in =
     bare ∷ plain ∷ blank 2 2 ∷ lengths
     (whole 8 8 ∷ whole 16 4 ∷ whole 20 4 ∷ numbers (blank 36 12 ∷ []))
 -- unnamed, U, O, unnamed, 1; response, status; ITT, SNACK Tag; ExpDataSN, residual count
-table_of scsiResponse =
+table_of scsi_response =
     bare ∷ row 1 1 (unnamed 1 ∷ field 1 ∷ field 1 ∷ unnamed 4 ∷ field 1 ∷ []) ∷ whole 2 1 ∷ whole 3 1 ∷ lengths
     (blank 8 8 ∷ whole 16 4 ∷ whole 20 4 ∷ numbers (whole 36 4 ∷ blank 40 4 ∷ whole 44 4 ∷ []))
 -- response; ITT
-table_of taskManagementResponse =
+table_of task_management_response =
     bare ∷ plain ∷ whole 2 1 ∷ blank 3 1 ∷ lengths
     (blank 8 8 ∷ whole 16 4 ∷ blank 20 4 ∷ numbers (blank 36 12 ∷ []))
 -- NSG, CSG, unnamed, T; ISID, TSIH, ITT; status class, detail
-table_of loginResponse =
+table_of login_response =
     bare ∷ row 1 1 (field 2 ∷ field 2 ∷ unnamed 3 ∷ field 1 ∷ []) ∷ blank 2 2 ∷ lengths
     (whole 8 6 ∷ whole 14 2 ∷ whole 16 4 ∷ blank 20 4 ∷ numbers (whole 36 1 ∷ whole 37 1 ∷ blank 38 10 ∷ []))
 -- unnamed, A, F; LUN, ITT, TTT; DataSN, Buffer Offset
@@ -103,7 +103,7 @@ table_of data_in =
     bare ∷ row 1 1 (unnamed 6 ∷ field 1 ∷ field 1 ∷ []) ∷ blank 2 2 ∷ lengths
     (whole 8 8 ∷ whole 16 4 ∷ whole 20 4 ∷ numbers (whole 36 4 ∷ whole 40 4 ∷ blank 44 4 ∷ []))
 -- response; ITT; Time2Wait, Time2Retain
-table_of logoutResponse =
+table_of logout_response =
     bare ∷ plain ∷ whole 2 1 ∷ blank 3 1 ∷ lengths
     (blank 8 8 ∷ whole 16 4 ∷ blank 20 4 ∷ numbers (blank 36 4 ∷ whole 40 2 ∷ whole 42 2 ∷ blank 44 4 ∷ []))
 -- LUN, ITT, TTT; R2TSN, Buffer Offset, Desired Data Transfer Length
@@ -122,9 +122,9 @@ abbrev pub bit_of : Bool → ℕ
 bit_of b = pick b 1 0
 
 abbrev pub request_kind : Request → Kind
-request_kind (Q.NopOut x) = nopOut
-request_kind (Q.ScsiCommand x) = scsiCommand
-request_kind (Q.TaskManagement x) = taskManagement
+request_kind (Q.NopOut x) = nop_out
+request_kind (Q.ScsiCommand x) = scsi_command
+request_kind (Q.TaskManagement x) = task_management
 request_kind (Q.Login x) = login
 request_kind (Q.DataOut x) = data_out
 request_kind (Q.Logout x) = logout
@@ -133,14 +133,14 @@ request_kind (Q.Snack x) = snack
 -- byte 1's highest bit is 1 but in SCSI Command, Login and Data-Out, and TotalAHSLength is 0 but in SCSI Command
 abbrev fields_for : Pdu → Request → List ℕ
 fields_for p (Q.NopOut x) =
-    opcode nopOut ∷ bit_of p.immediate ∷ 1 ∷ 0 ∷ p.data_segment_length
+    opcode nop_out ∷ bit_of p.immediate ∷ 1 ∷ 0 ∷ p.data_segment_length
     ∷ p.lun ∷ p.initiator_task_tag ∷ x.target_transfer_tag ∷ p.cmd_sn ∷ p.exp_stat_sn ∷ []
 fields_for p (Q.ScsiCommand x) =
-    opcode scsiCommand ∷ bit_of p.immediate ∷ x.attribute ∷ bit_of x.is_write ∷ bit_of x.is_read ∷ bit_of x.is_final
+    opcode scsi_command ∷ bit_of p.immediate ∷ x.attribute ∷ bit_of x.is_write ∷ bit_of x.is_read ∷ bit_of x.is_final
     ∷ x.total_ahs_length ∷ p.data_segment_length ∷ p.lun ∷ p.initiator_task_tag ∷ x.expected_data_transfer_length
     ∷ p.cmd_sn ∷ p.exp_stat_sn ∷ x.cdb_0 ∷ x.cdb_1 ∷ []
 fields_for p (Q.TaskManagement x) =
-    opcode taskManagement ∷ bit_of p.immediate ∷ x.function ∷ 1 ∷ 0 ∷ p.data_segment_length
+    opcode task_management ∷ bit_of p.immediate ∷ x.function ∷ 1 ∷ 0 ∷ p.data_segment_length
     ∷ p.lun ∷ p.initiator_task_tag ∷ x.referenced_task_tag ∷ p.cmd_sn ∷ p.exp_stat_sn ∷ x.ref_cmd_sn ∷ x.exp_data_sn ∷ []
 fields_for p (Q.Login x) =
     opcode login ∷ bit_of p.immediate ∷ x.nsg ∷ x.csg ∷ bit_of x.continues ∷ bit_of x.transit ∷ x.version_max ∷ x.version_min
@@ -159,12 +159,12 @@ abbrev pub request_fields : Pdu → List ℕ
 request_fields p = fields_for p p.request
 
 abbrev pub response_kind : Response → Kind
-response_kind (R.NopIn r) = nopIn
-response_kind (R.ScsiResponse r) = scsiResponse
-response_kind (R.TaskManagementResponse r) = taskManagementResponse
-response_kind (R.LoginResponse r) = loginResponse
+response_kind (R.NopIn r) = nop_in
+response_kind (R.ScsiResponse r) = scsi_response
+response_kind (R.TaskManagementResponse r) = task_management_response
+response_kind (R.LoginResponse r) = login_response
 response_kind (R.DataIn r) = data_in
-response_kind (R.LogoutResponse r) = logoutResponse
+response_kind (R.LogoutResponse r) = logout_response
 response_kind (R.R2t r) = r2t
 response_kind (R.Reject r) = reject
 
@@ -173,14 +173,14 @@ numbers_then n vs = n.stat_sn ∷ n.exp_cmd_sn ∷ n.max_cmd_sn ∷ vs
 
 abbrev pub response_fields : Response → Numbers → List ℕ
 response_fields (R.NopIn r) n =
-    opcode nopIn ∷ 1 ∷ 0 ∷ r.data_segment_length ∷ r.lun ∷ r.initiator_task_tag ∷ r.target_transfer_tag ∷ numbers_then n []
+    opcode nop_in ∷ 1 ∷ 0 ∷ r.data_segment_length ∷ r.lun ∷ r.initiator_task_tag ∷ r.target_transfer_tag ∷ numbers_then n []
 response_fields (R.ScsiResponse r) n =
-    opcode scsiResponse ∷ bit_of r.underflow ∷ bit_of r.overflow ∷ 1 ∷ r.response ∷ r.status ∷ 0 ∷ r.data_segment_length
+    opcode scsi_response ∷ bit_of r.underflow ∷ bit_of r.overflow ∷ 1 ∷ r.response ∷ r.status ∷ 0 ∷ r.data_segment_length
     ∷ r.initiator_task_tag ∷ r.snack_tag ∷ numbers_then n (r.exp_data_sn ∷ r.residual_count ∷ [])
 response_fields (R.TaskManagementResponse r) n =
-    opcode taskManagementResponse ∷ 1 ∷ r.response ∷ 0 ∷ 0 ∷ r.initiator_task_tag ∷ numbers_then n []
+    opcode task_management_response ∷ 1 ∷ r.response ∷ 0 ∷ 0 ∷ r.initiator_task_tag ∷ numbers_then n []
 response_fields (R.LoginResponse r) n =
-    opcode loginResponse ∷ r.nsg ∷ r.csg ∷ bit_of r.transit ∷ 0 ∷ r.data_segment_length ∷ r.isid ∷ r.tsih ∷ r.initiator_task_tag
+    opcode login_response ∷ r.nsg ∷ r.csg ∷ bit_of r.transit ∷ 0 ∷ r.data_segment_length ∷ r.isid ∷ r.tsih ∷ r.initiator_task_tag
     ∷ numbers_then n (r.status_class ∷ r.status_detail ∷ [])
 -- Data-In's StatSN is 0, whatever number is given
 response_fields (R.DataIn r) n =
@@ -188,7 +188,7 @@ response_fields (R.DataIn r) n =
     ∷ r.target_transfer_tag
     ∷ numbers_then (record { stat_sn = 0; exp_cmd_sn = n.exp_cmd_sn; max_cmd_sn = n.max_cmd_sn }) (r.data_sn ∷ r.buffer_offset ∷ [])
 response_fields (R.LogoutResponse r) n =
-    opcode logoutResponse ∷ 1 ∷ r.response ∷ 0 ∷ 0 ∷ r.initiator_task_tag ∷ numbers_then n (r.time2wait ∷ r.time2retain ∷ [])
+    opcode logout_response ∷ 1 ∷ r.response ∷ 0 ∷ 0 ∷ r.initiator_task_tag ∷ numbers_then n (r.time2wait ∷ r.time2retain ∷ [])
 response_fields (R.R2t r) n =
     opcode r2t ∷ 1 ∷ 0 ∷ 0 ∷ r.lun ∷ r.initiator_task_tag ∷ r.target_transfer_tag
     ∷ numbers_then n (r.r2t_sn ∷ r.buffer_offset ∷ r.desired_data_transfer_length ∷ [])

@@ -19,11 +19,11 @@ use Rattle.key_values.proofs.Ranges.{settled-in}
 use Rattle.login_book.specs.Keys.{none_came}
 use Rattle.login_book.specs.Book.{Stage, start, in_stage, permitted, Phase, at_start, begun, stage_of, LoginBook, fresh_book}
 use Rattle.login_book.specs.Login.{Answer, refused, answered, Outcome, ended, differs, gather_step, handle, stage_after, accept, with_gather}
-use Rattle.login_book.specs.Events.{Call, Event, event, step_of, events_of, a_login, read_as, on_login, accepted, is_six, names3, keysAfter, over_in, since, phase_in, judged_in, gathered_in, offers_of, offers_in, keys_in, book_in}
+use Rattle.login_book.specs.Events.{Call, Event, event, step_of, events_of, a_login, read_as, on_login, accepted, is_six, names3, keys_after, over_in, since, phase_in, judged_in, gathered_in, offers_of, offers_in, keys_in, book_in}
 use Rattle.login_book.specs.Rules.{Passes, Unrefused, Refuses, buffer, closed, unreadable, no_handle, check_broken, form_broken, pair_refused, names_lacking, Accepts, gathers, judges}
 use Rattle.login_book.specs.Demand.{csg_fits, stage_then, stage_goes_on, is_path, enters, entered, entries, is_full, taken, value_after, is_offered, Sentences, Each, Demand2}
 use Rattle.login_book.proofs.Checks.{both_go, step_is, step-of, check-kept}
-use Rattle.login_book.proofs.Rules.{area_then, by-gathering, by-judging, by-refusal, keysThen, textThen, Decided, refuses, accepts, decided}
+use Rattle.login_book.proofs.Rules.{area_then, by-gathering, by-judging, by-refusal, keys_then, text_then, Decided, refuses, accepts, decided}
 use Rattle.login_book.proofs.Promised.{offers-in, promised}
 
 -- ---- the login that is left is the one that the list says
@@ -78,25 +78,25 @@ module _ (past : List Event) (c : Call) where
       (since-go (phase_in past) q q.csg false q.csg 0 q.tsih [] (check-kept now q (length d) c.live r.kept 2)
       ∙ ap (on_login (λ q₁ d₁. since (phase_in past) o.answer q₁) (phase_in past)) (sym x))
       (ap (λ (y : Bool). not y || judged_in past) (sym h) ∙ ap (on_login (λ q₁ d₁. not q₁.continues || judged_in past) (judged_in past)) (sym x))
-      (ap (keysAfter q.csg (eqb q.tsih 0) c.ours (keys_in past)) (sym (offers-in now c q d r o refl ∙ here _ _ _ h))
-      ∙ ap (on_login (λ q₁ d₁. keysAfter q₁.csg (eqb q₁.tsih 0) c.ours (keys_in past) (offers_of (gathered_in past) (event c o))) (keys_in past)) (sym x))
+      (ap (keys_after q.csg (eqb q.tsih 0) c.ours (keys_in past)) (sym (offers-in now c q d r o refl ∙ here _ _ _ h))
+      ∙ ap (on_login (λ q₁ d₁. keys_after q₁.csg (eqb q₁.tsih 0) c.ours (keys_in past) (offers_of (gathered_in past) (event c o))) (keys_in past)) (sym x))
       (sym (here _ _ _ h) ∙ ap (on_login (λ q₁ d₁. pick q₁.continues (gathered_in past + length d₁) 0) (gathered_in past)) (sym x))
 
   left-judged : (q : Login) (d : List ℕ) → Unrefused now c q d
-      → (let o = with_gather c.gather (area_then now c d) (accept q c.new (keysThen now c q d) (textThen now c q d) c.text) in
+      → (let o = with_gather c.gather (area_then now c d) (accept q c.new (keys_then now c q d) (text_then now c q d) c.text) in
       o.book ≡ book_in (event c o ∷ past))
   left-judged q d r =
-      let o = with_gather c.gather (area_then now c d) (accept q c.new (keysThen now c q d) (textThen now c q d) c.text) in
+      let o = with_gather c.gather (area_then now c d) (accept q c.new (keys_then now c q d) (text_then now c q d) c.text) in
       let s = r.formed.passes in
       let w = r.formed.whole in
       let x : read_as c.pdu ≡ a_login q d = s.reaches.reads in
       same-book o.book (book_in (event c o ∷ past)) (over-go q.transit q.nsg (over_in past) s.reaches.going)
-      (since-go (phase_in past) q (stage_after q) q.transit q.csg (pick q.transit q.nsg 0) (handle q c.new) (textThen now c q d)
+      (since-go (phase_in past) q (stage_after q) q.transit q.csg (pick q.transit q.nsg 0) (handle q c.new) (text_then now c q d)
       (check-kept now q (length d) c.live s.kept 2)
       ∙ ap (on_login (λ q₁ d₁. since (phase_in past) o.answer q₁) (phase_in past)) (sym x))
       (ap (λ (y : Bool). not y || judged_in past) (sym w) ∙ ap (on_login (λ q₁ d₁. not q₁.continues || judged_in past) (judged_in past)) (sym x))
-      (ap (keysAfter q.csg (eqb q.tsih 0) c.ours (keys_in past)) (sym (offers-in now c q d s o refl ∙ skip _ _ _ _ w refl))
-      ∙ ap (on_login (λ q₁ d₁. keysAfter q₁.csg (eqb q₁.tsih 0) c.ours (keys_in past) (offers_of (gathered_in past) (event c o))) (keys_in past)) (sym x))
+      (ap (keys_after q.csg (eqb q.tsih 0) c.ours (keys_in past)) (sym (offers-in now c q d s o refl ∙ skip _ _ _ _ w refl))
+      ∙ ap (on_login (λ q₁ d₁. keys_after q₁.csg (eqb q₁.tsih 0) c.ours (keys_in past) (offers_of (gathered_in past) (event c o))) (keys_in past)) (sym x))
       (sym (skip _ _ _ _ w refl) ∙ ap (on_login (λ q₁ d₁. pick q₁.continues (gathered_in past + length d₁) 0) (gathered_in past)) (sym x))
 
   left-of : Decided now c → (step_of now c).book ≡ book_in (event c (step_of now c) ∷ past)

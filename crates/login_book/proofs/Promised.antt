@@ -20,7 +20,7 @@ use Rattle.login_book.specs.Rules.{Passes, block, Unrefused, Refuses, Accepts, g
 use Rattle.login_book.specs.Demand.{csg_fits, step_from, asks3, value_after, is_offered, Promised}
 use Rattle.login_book.proofs.Values.{and_none, values-after, came-after, replies-length, start-length}
 use Rattle.login_book.proofs.Checks.{both_go, check-kept}
-use Rattle.login_book.proofs.Rules.{refusal, area_then, by-gathering, by-judging, by-refusal, keysThen, textThen, Decided, refuses, accepts, decided}
+use Rattle.login_book.proofs.Rules.{refusal, area_then, by-gathering, by-judging, by-refusal, keys_then, text_then, Decided, refuses, accepts, decided}
 
 true-false : {A : Type 0} → true ≡ false → A
 true-false e = false-true (sym e)
@@ -189,9 +189,9 @@ module _ (b : LoginBook) (c : Call) where
     passed = r.formed.passes
 
     abbrev afterwards : Outcome
-    afterwards = with_gather c.gather (area_then b c d) (accept q c.new (keysThen b c q d) (textThen b c q d) c.text)
+    afterwards = with_gather c.gather (area_then b c d) (accept q c.new (keys_then b c q d) (text_then b c q d) c.text)
 
-    fields-judged : AnswerFields b c q d (stage_after q) q.transit q.csg (pick q.transit q.nsg 0) (handle q c.new) (textThen b c q d)
+    fields-judged : AnswerFields b c q d (stage_after q) q.transit q.csg (pick q.transit q.nsg 0) (handle q c.new) (text_then b c q d)
     unfolding start_text
     fields-judged = record {
       same_csg = refl;
@@ -216,12 +216,12 @@ module _ (b : LoginBook) (c : Call) where
     offers-judged = offers-in q d passed afterwards refl ∙ past _ _ _ _ r.formed.whole refl
 
     came-judged : (n : List ℕ)
-        → (keysThen b c q d).came n ≡ ((not (eqb (key_of n) 28) && is_offered n (offers_of b.gathered (event c afterwards))) || b.keys.came n)
+        → (keys_then b c q d).came n ≡ ((not (eqb (key_of n) 28) && is_offered n (offers_of b.gathered (event c afterwards))) || b.keys.came n)
     came-judged n =
         came-after q.csg (eqb q.tsih 0) c.ours b.keys (pairs 64 (block b c d)) r.none_refused n
         ∙ ap (λ (ps : List Pair). (not (eqb (key_of n) 28) && is_offered n ps) || b.keys.came n) (sym offers-judged)
 
-    values-judged : (n : List ℕ) → key_of n < 12 → (keysThen b c q d).value n ≡ value_after n (b.keys.value n) (offers_of b.gathered (event c afterwards))
+    values-judged : (n : List ℕ) → key_of n < 12 → (keys_then b c q d).value n ≡ value_after n (b.keys.value n) (offers_of b.gathered (event c afterwards))
     values-judged n h =
         values-after q.csg (eqb q.tsih 0) c.ours b.keys (pairs 64 (block b c d)) r.none_refused n h
         ∙ ap (value_after n (b.keys.value n)) (sym offers-judged)
@@ -234,7 +234,7 @@ module _ (b : LoginBook) (c : Call) where
         (sym (from-go (stage_of b.phase) q.csg (fitting q d passed)))
         ∙ ap (λ (x : Reading). asks3 (stage_of b.phase) x && (q.transit && eqb (pick q.transit q.nsg 0) 3)) (sym passed.reaches.reads)
 
-    length-judged : length (textThen b c q d) ≤ 5015
+    length-judged : length (text_then b c q d) ≤ 5015
     length-judged =
         let x = replies-length q.csg (eqb q.tsih 0) c.ours 64 b.keys (block b c d) r.formed.formed in
         let y = length-append (start_text b.judged) (replies q.csg (eqb q.tsih 0) c.ours b.keys (pairs 64 (block b c d))) in
@@ -247,7 +247,7 @@ module _ (b : LoginBook) (c : Call) where
           answers = answers-both afterwards e;
           fields = λ q₁ d₁ y.
               the-login (λ q₂ d₂.
-              AnswerFields b c q₂ d₂ (stage_after q) q.transit q.csg (pick q.transit q.nsg 0) (handle q c.new) (textThen b c q d))
+              AnswerFields b c q₂ d₂ (stage_after q) q.transit q.csg (pick q.transit q.nsg 0) (handle q c.new) (text_then b c q d))
               q q₁ d d₁ (sym x ∙ y) fields-judged;
           gathers = λ q₁ d₁ y _. the-login (λ q₂ d₂. Gathers b c q₂ d₂ (area_then b c d)) q q₁ d d₁ (sym x ∙ y) area-judged;
           refusals = refusals-both afterwards e;

@@ -22,7 +22,7 @@ use Rattle.login_book.specs.Keys.{Keys, named}
 use Rattle.login_book.specs.Book.{LoginBook}
 use Rattle.login_book.specs.Block.{Result, stopped, judge}
 use Rattle.login_book.specs.Login.{Outcome, Texted, refused, refuse, ended, fail, status_of, joined, gather_step, start_text, accept, fail_text, finish, text_step, with_gather, judge_step, request_step, kind_step, read_step, login_step}
-use Rattle.login_book.specs.Events.{Call, step_of, Reading, unread, a_login, read_by, read_as, unrefused, keysAfter, replies}
+use Rattle.login_book.specs.Events.{Call, step_of, Reading, unread, a_login, read_by, read_as, unrefused, keys_after, replies}
 use Rattle.login_book.specs.Rules.{Breaks, Lent, Reaches, Passes, block, Formed, Unrefused, Named, Refuses, buffer, closed, unreadable, no_handle, check_broken, form_broken, pair_refused, names_lacking, Accepts, gathers, judges}
 use Rattle.login_book.proofs.Checks.{split, decided-checks, status-first, status-none}
 use Rattle.login_book.proofs.Reading.{reading}
@@ -67,11 +67,11 @@ short-go true y a z e = refl
 short-go false y a z e = here _ _ _ e
 
 module _ (b : LoginBook) (c : Call) where
-  abbrev stepBy : Reading → Outcome
-  stepBy (unread n) = refuse b n c.gather c.text
-  stepBy (a_login q d) = request_step b q d c.live c.new c.ours c.gather c.text
+  abbrev step_by : Reading → Outcome
+  step_by (unread n) = refuse b n c.gather c.text
+  step_by (a_login q d) = request_step b q d c.live c.new c.ours c.gather c.text
 
-  kind-is : (k : Request) (d : List ℕ) → kind_step k b d c.live c.new c.ours c.gather c.text ≡ stepBy (if_login (λ q. a_login q d) (unread 3) k)
+  kind-is : (k : Request) (d : List ℕ) → kind_step k b d c.live c.new c.ours c.gather c.text ≡ step_by (if_login (λ q. a_login q d) (unread 3) k)
   kind-is (R.NopOut x) d = refl
   kind-is (R.ScsiCommand x) d = refl
   kind-is (R.TaskManagement x) d = refl
@@ -80,11 +80,11 @@ module _ (b : LoginBook) (c : Call) where
   kind-is (R.Logout x) d = refl
   kind-is (R.Snack x) d = refl
 
-  read_is : (r : Read.Answer) → read_step r b c.pdu c.live c.new c.ours c.gather c.text ≡ stepBy (read_by r c.pdu)
+  read_is : (r : Read.Answer) → read_step r b c.pdu c.live c.new c.ours c.gather c.text ≡ step_by (read_by r c.pdu)
   read_is (Read.refused n) = refl
   read_is (Read.got p) = kind-is p.request (data_of c.pdu p)
 
-  to-reading : Lent c → b.over ≡ false → step_of b c ≡ stepBy (read_as c.pdu)
+  to-reading : Lent c → b.over ≡ false → step_of b c ≡ step_by (read_as c.pdu)
   unfolding login_step
   to-reading l o = past _ _ _ _ (le-ltb _ _ l.gather) (past _ _ _ _ (le-ltb _ _ l.text) (past _ _ _ _ o (read_is (read_pdu limits c.pdu))))
 
@@ -94,7 +94,7 @@ module _ (b : LoginBook) (c : Call) where
         ≡ pick (not (eqb (status_of b q (length d) c.live) 0)) (fail b (status_of b q (length d) c.live) c.gather c.text)
         (pick q.continues (gather_step b q d c.gather c.text) (judge_step b q c.new c.ours d c.gather c.text))
     unfolding request_step
-    to-checks r = to-reading r.lent r.going ∙ ap stepBy r.reads ∙ past _ _ _ _ (ne_eqb _ _ r.handle) refl
+    to-checks r = to-reading r.lent r.going ∙ ap step_by r.reads ∙ past _ _ _ _ (ne_eqb _ _ r.handle) refl
 
     fails-check : Reaches b c q d → (k t : ℕ) → Breaks b q (length d) c.live k t → ((j u : ℕ) → j < k → Breaks b q (length d) c.live j u → ⊥)
         → step_of b c ≡ fail b t c.gather c.text
@@ -142,27 +142,27 @@ module _ (b : LoginBook) (c : Call) where
     fails-pair r s j = to-pairs r ∙ ap (λ (x : Result). with_gather c.gather (area_then b c d) (finish b q c.new c.text x)) j
 
     -- what a block whose pairs go through settles, and is answered
-    abbrev pub keysThen : Keys
-    keysThen = keysAfter q.csg (eqb q.tsih 0) c.ours b.keys (pairs 64 (block b c d))
+    abbrev pub keys_then : Keys
+    keys_then = keys_after q.csg (eqb q.tsih 0) c.ours b.keys (pairs 64 (block b c d))
 
-    abbrev pub textThen : List ℕ
-    textThen = start_text b.judged ++ replies q.csg (eqb q.tsih 0) c.ours b.keys (pairs 64 (block b c d))
+    abbrev pub text_then : List ℕ
+    text_then = start_text b.judged ++ replies q.csg (eqb q.tsih 0) c.ours b.keys (pairs 64 (block b c d))
 
     to-names : Unrefused b c q d
         → step_of b c
         ≡ with_gather c.gather (area_then b c d)
-        (pick (not b.judged && not (named keysThen)) (fail_text b 0x0207 c.text) (accept q c.new keysThen textThen c.text))
+        (pick (not b.judged && not (named keys_then)) (fail_text b 0x0207 c.text) (accept q c.new keys_then text_then c.text))
     to-names r =
         to-pairs r.formed
         ∙ ap (λ (x : Result). with_gather c.gather (area_then b c d) (finish b q c.new c.text x))
         (judge-went q.csg (eqb q.tsih 0) c.ours b.keys (start_text b.judged) (pairs 64 (block b c d)) r.none_refused)
 
-    fails-names : Unrefused b c q d → b.judged ≡ false → named keysThen ≡ false → step_of b c ≡ fail b 0x0207 c.gather c.text
-    fails-names r e f = to-names r ∙ ap (with_gather c.gather (area_then b c d)) (here _ _ _ (lacks-go b.judged (named keysThen) e f))
+    fails-names : Unrefused b c q d → b.judged ≡ false → named keys_then ≡ false → step_of b c ≡ fail b 0x0207 c.gather c.text
+    fails-names r e f = to-names r ∙ ap (with_gather c.gather (area_then b c d)) (here _ _ _ (lacks-go b.judged (named keys_then) e f))
 
     -- the answer without C
-    pub by-judging : Unrefused b c q d → Named b c q d → step_of b c ≡ with_gather c.gather (area_then b c d) (accept q c.new keysThen textThen c.text)
-    by-judging r n = to-names r ∙ ap (with_gather c.gather (area_then b c d)) (past _ _ _ _ (has-go b.judged (named keysThen) n) refl)
+    pub by-judging : Unrefused b c q d → Named b c q d → step_of b c ≡ with_gather c.gather (area_then b c d) (accept q c.new keys_then text_then c.text)
+    by-judging r n = to-names r ∙ ap (with_gather c.gather (area_then b c d)) (past _ _ _ _ (has-go b.judged (named keys_then) n) refl)
 
   -- a refusal is that of the rule that refuses
   pub by-refusal : (n s : ℕ) → Refuses b c n s → step_of b c ≡ refusal b c n s
@@ -171,10 +171,10 @@ module _ (b : LoginBook) (c : Call) where
   by-refusal n s (closed l o) = past _ _ _ _ (le-ltb _ _ l.gather) (past _ _ _ _ (le-ltb _ _ l.text) (here _ _ _ o))
   by-refusal n s (unreadable m l o e) =
       to-reading l o
-      ∙ ap stepBy e
+      ∙ ap step_by e
       ∙ ap (λ (x : Bool). record { book = pick x (ended b) b; answer = refused m 0; gather = c.gather; text = c.text })
       (sym (unread-other c.pdu m e))
-  by-refusal n s (no_handle q d l o e z) = to-reading l o ∙ ap stepBy e ∙ (unfold request_step in (here _ _ _ (eq-eqb _ _ z)))
+  by-refusal n s (no_handle q d l o e z) = to-reading l o ∙ ap step_by e ∙ (unfold request_step in (here _ _ _ (eq-eqb _ _ z)))
   by-refusal n s (check_broken q d r k t x h) = fails-check q d r k t x h
   by-refusal n s (form_broken q d r e f) = fails-form q d r e f
   by-refusal n s (pair_refused q d r before p later status e h x) =
@@ -193,7 +193,7 @@ module _ (b : LoginBook) (c : Call) where
   decided-names : (q : Login) (d : List ℕ) → Unrefused b c q d → Decided b c
   decided-names q d r =
       split b.judged (λ e. accepts (judges q d r (λ f. false-true (sym f ∙ e))))
-      (λ e. split (named (keysThen b c q d)) (λ f. accepts (judges q d r (λ _. f))) (λ f. refuses 6 0x0207 (names_lacking q d r e f)))
+      (λ e. split (named (keys_then b c q d)) (λ f. accepts (judges q d r (λ _. f))) (λ f. refuses 6 0x0207 (names_lacking q d r e f)))
 
   decided-pairs : (q : Login) (d : List ℕ) → Formed b c q d → Decided b c
   decided-pairs q d r =

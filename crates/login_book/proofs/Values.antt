@@ -23,7 +23,7 @@ use Rattle.key_replies.proofs.Said.{said-length}
 use Rattle.login_book.specs.Keys.{Keys, after_known, after}
 use Rattle.login_book.specs.Block.{Result, stopped, went, onward, judge_pair, judge}
 use Rattle.login_book.specs.Login.{start_text}
-use Rattle.login_book.specs.Events.{is_refused, unrefused, keysAfter, replies}
+use Rattle.login_book.specs.Events.{is_refused, unrefused, keys_after, replies}
 use Rattle.login_book.specs.Demand.{taken, value_after, is_offered}
 
 pub and_none : (k w : Bool) → w ≡ ((k && false) || w)
@@ -132,7 +132,7 @@ came-turn false u v w = refl
 module _ (stage : ℕ) (leading : Bool) (ours : List ℕ) where
   -- Where no pair is refused judging goes through, with the answers in offer order after t.
   pub judge-went : (s : Keys) (t : List ℕ) (ps : List Pair) → unrefused stage leading ours s ps ≡ true
-      → judge stage leading ours s t ps ≡ went (keysAfter stage leading ours s ps) (t ++ replies stage leading ours s ps)
+      → judge stage leading ours s t ps ≡ went (keys_after stage leading ours s ps) (t ++ replies stage leading ours s ps)
   unfolding judge
   judge-went s t [] e = ap (went s) (sym (append-nil t))
   judge-went s t (p ∷ ps) e =
@@ -140,11 +140,11 @@ module _ (stage : ℕ) (leading : Bool) (ours : List ℕ) where
       let s₁ = after s p.name j in
       goes_on j _ (not-refused j _ e)
       ∙ judge-went s₁ (t ++ said_text p.name j) ps (&&-right (not (is_refused j)) _ e)
-      ∙ ap (went (keysAfter stage leading ours s₁ ps)) (append_assoc t (said_text p.name j) (replies stage leading ours s₁ ps))
+      ∙ ap (went (keys_after stage leading ours s₁ ps)) (append_assoc t (said_text p.name j) (replies stage leading ours s₁ ps))
 
   -- It stops at a refused pair, after pairs that are not.
   pub judge-stopped : (s : Keys) (t : List ℕ) (before : List Pair) (p : Pair) (later : List Pair) (n : ℕ) → unrefused stage leading ours s before ≡ true
-      → judge_pair stage leading ours (keysAfter stage leading ours s before) p ≡ J.Refused n → judge stage leading ours s t (before ++ (p ∷ later)) ≡ stopped n
+      → judge_pair stage leading ours (keys_after stage leading ours s before) p ≡ J.Refused n → judge stage leading ours s t (before ++ (p ∷ later)) ≡ stopped n
   unfolding judge
   judge-stopped s t [] p later n e r =
       let k = judge_pair stage leading ours s p in
@@ -161,7 +161,7 @@ module _ (stage : ℕ) (leading : Bool) (ours : List ℕ) where
     pub status : ℕ
     pub split : ps ≡ before ++ (pair ∷ later)
     pub gone : unrefused stage leading ours s before ≡ true
-    pub refused : judge_pair stage leading ours (keysAfter stage leading ours s before) pair ≡ J.Refused status
+    pub refused : judge_pair stage leading ours (keys_after stage leading ours s before) pair ≡ J.Refused status
 
   stop-later : (p : Pair) (ps : List Pair) (s : Keys) → is_refused (judge_pair stage leading ours s p) ≡ false
       → Stops (after s p.name (judge_pair stage leading ours s p)) ps → Stops s (p ∷ ps)
@@ -189,7 +189,7 @@ module _ (stage : ℕ) (leading : Bool) (ours : List ℕ) where
 
   -- Values and keys after pairs that are not refused.
   pub values-after : (s : Keys) (ps : List Pair) → unrefused stage leading ours s ps ≡ true → (n : List ℕ) → key_of n < 12
-      → (keysAfter stage leading ours s ps).value n ≡ value_after n (s.value n) ps
+      → (keys_after stage leading ours s ps).value n ≡ value_after n (s.value n) ps
   values-after s [] e n h = refl
   values-after s (p ∷ ps) e n h =
       let j = judge_pair stage leading ours s p in
@@ -197,7 +197,7 @@ module _ (stage : ℕ) (leading : Bool) (ours : List ℕ) where
       ∙ ap (λ (x : ℕ). value_after n x ps) (after-value s p.name n j h ∙ pair-go (same n p.name) s stage leading ours p n refl h (not-refused j _ e))
 
   pub came-after : (s : Keys) (ps : List Pair) → unrefused stage leading ours s ps ≡ true → (n : List ℕ)
-      → (keysAfter stage leading ours s ps).came n ≡ ((not (eqb (key_of n) 28) && is_offered n ps) || s.came n)
+      → (keys_after stage leading ours s ps).came n ≡ ((not (eqb (key_of n) 28) && is_offered n ps) || s.came n)
   came-after s [] e n = and_none (not (eqb (key_of n) 28)) (s.came n)
   came-after s (p ∷ ps) e n =
       let j = judge_pair stage leading ours s p in

@@ -106,9 +106,9 @@ module _ (stage : ℕ) (leading : Bool) (ours : List ℕ) where
   unrefused s (p ∷ ps) = not (is_refused (judge_pair stage leading ours s p)) && unrefused (after s p.name (judge_pair stage leading ours s p)) ps
 
   -- the keys after them
-  abbrev pub keysAfter : Keys → List Pair → Keys
-  keysAfter s [] = s
-  keysAfter s (p ∷ ps) = keysAfter (after s p.name (judge_pair stage leading ours s p)) ps
+  abbrev pub keys_after : Keys → List Pair → Keys
+  keys_after s [] = s
+  keys_after s (p ∷ ps) = keys_after (after s p.name (judge_pair stage leading ours s p)) ps
 
   -- Answers stand in offer order.
   abbrev pub replies : Keys → List Pair → List ℕ
@@ -161,7 +161,7 @@ offers_in (e ∷ past) = offers_in past ++ offers_of (gathered_in past) e
 -- the keys that came, with their values
 abbrev pub keys_in : List Event → Keys
 keys_in [] = none_came
-keys_in (e ∷ past) = if_answered e (keys_in past) (λ q d. keysAfter q.csg (eqb q.tsih 0) e.call.ours (keys_in past) (offers_of (gathered_in past) e))
+keys_in (e ∷ past) = if_answered e (keys_in past) (λ q d. keys_after q.csg (eqb q.tsih 0) e.call.ours (keys_in past) (offers_of (gathered_in past) e))
 
 -- the whole
 abbrev pub book_in : List Event → LoginBook

@@ -9,7 +9,7 @@ use Rattle.login_book.specs.Keys.{named}
 use Rattle.login_book.specs.Book.{Stage, start, in_stage, at_start, begun, LoginBook}
 use Rattle.login_book.specs.Block.{judge_pair}
 use Rattle.login_book.specs.Login.{Answer, refused, answered}
-use Rattle.login_book.specs.Events.{Call, a_login, unread, read_as, unrefused, keysAfter, replies, block_of}
+use Rattle.login_book.specs.Events.{Call, a_login, unread, read_as, unrefused, keys_after, replies, block_of}
 
 -- ---- the checks
 
@@ -76,7 +76,7 @@ pub record Unrefused (b : LoginBook) (c : Call) (q : Login) (d : List ℕ) : Typ
 
 -- the first judged block has both names; a later one needs none
 abbrev pub Named : LoginBook → Call → Login → List ℕ → Type 0
-Named b c q d = b.judged ≡ false → named (keysAfter q.csg (eqb q.tsih 0) c.ours b.keys (pairs 64 (block b c d))) ≡ true
+Named b c q d = b.judged ≡ false → named (keys_after q.csg (eqb q.tsih 0) c.ours b.keys (pairs 64 (block b c d))) ≡ true
 
 -- ---- what refuses
 
@@ -98,11 +98,11 @@ pub data Refuses (b : LoginBook) (c : Call) : ℕ → ℕ → Type 0 where
   -- a pair is refused, and none before it
   pair_refused : (q : Login) (d : List ℕ) → Formed b c q d → (before : List Pair) (p : Pair) (later : List Pair) (status : ℕ)
       → pairs 64 (block b c d) ≡ before ++ (p ∷ later) → unrefused q.csg (eqb q.tsih 0) c.ours b.keys before ≡ true
-      → judge_pair q.csg (eqb q.tsih 0) c.ours (keysAfter q.csg (eqb q.tsih 0) c.ours b.keys before) p ≡ J.Refused status
+      → judge_pair q.csg (eqb q.tsih 0) c.ours (keys_after q.csg (eqb q.tsih 0) c.ours b.keys before) p ≡ J.Refused status
       → Refuses b c 6 status
   -- the first judged block lacks a name, after its pairs
   names_lacking : (q : Login) (d : List ℕ) → Unrefused b c q d → b.judged ≡ false
-      → named (keysAfter q.csg (eqb q.tsih 0) c.ours b.keys (pairs 64 (block b c d))) ≡ false → Refuses b c 6 0x0207
+      → named (keys_after q.csg (eqb q.tsih 0) c.ours b.keys (pairs 64 (block b c d))) ≡ false → Refuses b c 6 0x0207
 
 -- ---- what is answered
 
