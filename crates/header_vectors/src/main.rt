@@ -11,7 +11,7 @@ ghost use Rattle.std.specs.Prelude.{◌≤◌, length};
 use print::{fill, find, past, put, put_with};
 use request_header::{LIMITS, ReadAnswer};
 use std::io;
-use std::io::{BufWriter, Write};
+use std::io::Write;
 
 // The number that the decimal digits after a place are, up to the first other byte; at most 65535.
 fn number_after(text: &[u8], plus: usize) -> usize
@@ -93,8 +93,7 @@ fn run_all<W: Write>(to: &mut W, script: &[u8]) -> io::Result<()> {
 fn main(rt: HostRuntime) -> io::Result<()> {
     let mut buffer = [0u8; 65536];
     let n = fill(&mut rt.stdin(), &mut buffer)?;
-    let mut to = BufWriter::new(rt.alloc(), io::writer(&rt))?;
+    let mut to = io::writer(&rt);
     run_all(&mut to, &buffer[..n])?;
-    responses::run_all(&mut to)?;
-    to.flush()
+    responses::run_all(&mut to)
 }

@@ -14,7 +14,7 @@ use login_types::state::{State, Step};
 use pdu::{first, least, put_pdu, short, words_of};
 use print::{fill, find, past, put};
 use std::io;
-use std::io::{BufWriter, Write};
+use std::io::Write;
 
 // A login, with the gather area and the text output.
 #[derive(Clone, Copy)]
@@ -122,7 +122,6 @@ fn run_all<W: Write>(to: &mut W, script: &[u8]) -> io::Result<()> {
 fn main(rt: HostRuntime) -> io::Result<()> {
     let mut input = [0u8; 65536];
     let n = fill(&mut rt.stdin(), &mut input)?;
-    let mut to = BufWriter::new(rt.alloc(), io::writer(&rt))?;
-    run_all(&mut to, &input[..n])?;
-    to.flush()
+    let mut to = io::writer(&rt);
+    run_all(&mut to, &input[..n])
 }

@@ -13,7 +13,7 @@ use print::put;
 use session::FreshSession;
 use statuses::{acknowledge, resend, send, snack};
 use std::io;
-use std::io::{BufWriter, Write};
+use std::io::Write;
 
 // A fresh session at ErrorRecoveryLevel 1, with its first CmdSN and its first StatSN.
 fn fresh(first: u32, stat_sn: u32) -> FreshSession {
@@ -111,7 +111,6 @@ fn run_all<W: Write>(to: &mut W) -> io::Result<()> {
 }
 
 fn main(rt: HostRuntime) -> io::Result<()> {
-    let mut to = BufWriter::new(rt.alloc(), io::writer(&rt))?;
-    run_all(&mut to)?;
-    to.flush()
+    let mut to = io::writer(&rt);
+    run_all(&mut to)
 }

@@ -55,7 +55,7 @@ pub fn dead_ends(page: &Page) -> Vec<String> {
 }
 
 /// Names of RULES.md that come without a file and are in none that their section named before. Told by their form as in `references`, and
-/// further: a quote with `_` may also be a must-fail edit of some crate; one with a character that no name and no path has is text of a login.
+/// further: a must-fail edit comes with its crate; a quote with a character that no name and no path has is text of a login.
 pub fn unruled(page: &Page) -> Vec<String> {
     let prose = page.prose();
     let quotes = page.quotes(&prose);
@@ -81,9 +81,8 @@ pub fn unruled(page: &Page) -> Vec<String> {
             continue;
         }
         let (there, place) = if is_name(text) {
-            let defined = files.iter().any(|file| tree::defines(file, text));
-            let edit = text.contains('_') && tree::is_edit("*", text);
-            (defined || edit, "a file that its section named before")
+            let there = files.iter().any(|file| tree::defines(file, text));
+            (there, "a file that its section named before")
         } else {
             (tree::exists(text), "the root")
         };

@@ -45,6 +45,13 @@ pub const ALL: &[Fault] = &[
         "(`judge_key`)",
         "`judge_key`",
     ),
+    // A must-fail edit bears this name, no definition.
+    (
+        "docs/RULES.md",
+        "(`run_at`)",
+        "(`take_empty`)",
+        "`take_empty`",
+    ),
     (
         "docs/RULES.md",
         "`book/specs/Effects`",
@@ -53,9 +60,9 @@ pub const ALL: &[Fault] = &[
     ),
     (
         "docs/RULES.md",
-        "(`header_fixed`)",
-        "(`header_broken`)",
-        "`header_broken`",
+        "(`response_writer/header_fixed`)",
+        "(`response_writer/header_broken`)",
+        "`response_writer/header_broken`",
     ),
     (
         "docs/RULES.md",

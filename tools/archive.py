@@ -1,7 +1,7 @@
 #!/usr/bin/env python3
 """Makes the static library of `capi` of the libraries that a run of `rt ci` proved and left in crates/*/out.
 
-usage: tools/archive FILE.a SECONDS       right after `rt ci`, which began at that time (date +%s)
+usage: tools/archive.py FILE.a SECONDS       right after `rt ci`, which began at that time (date +%s)
 
 `rt lib` in crates/capi makes the same archive, but proves every crate below anew where no check of this checkout's own did. Here capi alone
 is proved, over the libraries as the run left them. Where the checkout had libraries of its own, `rt ci` puts those back: they aren't of
