@@ -9,7 +9,6 @@ ghost use Rattle.task_book.specs.Steps as T;
 ghost use Rattle.answer_words.specs.Answer.{origin_word, moved_words, answer_words, packed};
 
 use refusal::Refusal;
-use window::Origin;
 
 // A header was read or written, or its length told.
 pub const OK: u32 = 0;
@@ -43,7 +42,7 @@ const ACKNOWLEDGED: u32 = 44;
 pub fn refused(f: Refusal) -> [u32; 4]
     ensures { result ≡ answer_words (Answer.refused (number f)) }
 {
-    [refusal::number_of(f) as u32, 0, 0, 0]
+    refused_by(refusal::number_of(f) as u32)
 }
 
 // A refusal by its number.
@@ -66,14 +65,11 @@ pub fn pack_refused(f: Refusal) -> u64
     pack(refusal::number_of(f) as u32, 0)
 }
 
-// The connection that a command came on.
-pub fn origin_word(o: Origin) -> u32
+// The connection that a command came on; 4 where it has none.
+pub fn origin_word(o: Option<u32>) -> u32
     ensures { result ≡ origin_word (origin_of o) }
 {
-    match o {
-        Origin::None => 4,
-        Origin::Connection(c) => c,
-    }
+    o.unwrap_or(4)
 }
 
 // Data that came: its place, its count, and how many R2Ts are open after it.

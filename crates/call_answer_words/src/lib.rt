@@ -13,8 +13,8 @@ use answer_words::{
     BEYOND, COMMAND, DONE, DUPLICATE, KEPT, NOTHING, PASSED, VOID, origin_word, pack, pack_refused,
     refused,
 };
-use session_snack::SnackAnswer;
-use session_statuses::ResendAnswer;
+use ledger::Run;
+use refusal::Refusal;
 use window::{Offered, Taken};
 
 pub fn placed(a: Offered) -> u64
@@ -49,20 +49,21 @@ pub fn logged_out(emptied: u32, voided: u32) -> [u32; 4]
     [DONE, emptied, voided, 0]
 }
 
-pub fn run(a: SnackAnswer) -> [u32; 4]
+pub fn run(a: Result<Run, Refusal>) -> [u32; 4]
     ensures { result ≡ answer_words (snack_answer a) }
 {
     match a {
-        SnackAnswer::Refused(f) => refused(f),
-        SnackAnswer::Run { first, count } => [DONE, first, count, 0],
+        Ok(Run { first, count }) => [DONE, first, count, 0],
+        Err(f) => refused(f),
     }
 }
 
-pub fn resent(a: ResendAnswer) -> u64
+// The ticket of a status that is sent again.
+pub fn resent(a: Result<u32, Refusal>) -> u64
     ensures { packed result ≡ answer_words (resend_answer a) }
 {
     match a {
-        ResendAnswer::Refused(f) => pack_refused(f),
-        ResendAnswer::Resent(t) => pack(DONE, t),
+        Ok(t) => pack(DONE, t),
+        Err(f) => pack_refused(f),
     }
 }

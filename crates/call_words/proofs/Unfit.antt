@@ -1,17 +1,17 @@
 -- The book's step at a send whose words are no response, guard by guard.
 use Prim.Native.Nat.{ℕ, ◌≤◌, ◌<◌}
 use mathlib.Core.Path.{◌≡◌, ap, ◌∙◌}
-use mathlib.Core.Bool.{false}
 use mathlib.Core.List.{List}
 use lib.ListN.{length}
+use Rattle.refusal.specs.declared.Refusal.{Refusal}
+use Rattle.refusal.specs.Refusal.{number}
 use Rattle.response_header.specs.Response.{max_data_length}
 use Rattle.response_words.specs.ResponseWords.{unfit_refusal}
 use Rattle.ledger.specs.declared.Ledger.{Ledger}
 use Rattle.book.specs.Book.{Book, outputs, refuse}
-use Rattle.session_state.specs.After.{conn_at}
-use Rattle.session_state.specs.Reach.{IsOpen}
+use Rattle.session_state.specs.Reach.{IsOpen, Unreached}
 use Rattle.session_state.specs.Agree.{State, Agrees}
-use Rattle.session_state.proofs.Steps.{lend-short, lend-long, reach-none, reach-closed, open_at, reach-open}
+use Rattle.session_state.proofs.Steps.{lend-short, lend-long, reach-refused, open_at, reach-open}
 use Rattle.call_words.specs.Session.{unfit_step}
 
 module _ (b : Book) (c d : ℕ) (o : List ℕ) where
@@ -20,14 +20,10 @@ module _ (b : Book) (c d : ℕ) (o : List ℕ) where
   unfit-short h = lend-short b (outputs o) _ h
 
   module _ (h : 48 ≤ length o) where
-    pub unfit-none : 4 ≤ c → unfit_step b c d (outputs o) ≡ refuse 7 (outputs o) b
-    unfolding unfit_step
-    unfit-none n = lend-long b (outputs o) _ h ∙ reach-none b c (outputs o) _ n
-
     module _ (s : State) (g : Agrees s b) where
-      pub unfit-closed : c < 4 → (conn_at s.session c).is_open ≡ false → unfit_step b c d (outputs o) ≡ refuse 8 (outputs o) b
+      pub unfit-refused : (f : Refusal) → Unreached s.session c f → unfit_step b c d (outputs o) ≡ refuse (number f) (outputs o) b
       unfolding unfit_step
-      unfit-closed n e = lend-long b (outputs o) _ h ∙ reach-closed s b c (outputs o) _ g n e
+      unfit-refused f u = lend-long b (outputs o) _ h ∙ reach-refused s b c (outputs o) _ f g u
 
       pub unfit-open : (l : Ledger) → IsOpen s.session c l → unfit_step b c d (outputs o) ≡ refuse (unfit_refusal max_data_length d) (outputs o) b
       unfolding unfit_step

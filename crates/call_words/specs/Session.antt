@@ -1,5 +1,5 @@
 -- The contract of the session's calls for C: the words of a session before and after a call, the words of its answer, and what it lent.
-use Rattle.std.specs.Prelude.{ℕ, ◌≡◌, List}
+use Rattle.std.specs.Prelude.{ℕ, ◌≡◌, List, Result, Ok, Err}
 use Rattle.window.specs.Agree.{Commands}
 use Rattle.window.specs.declared.Window.{Window}
 use Rattle.ledger.specs.Agree.{Statuses}
@@ -13,8 +13,7 @@ use Rattle.session_state.specs.Agree.{State, state, Agrees, IsFresh, Did}
 use Rattle.session_state.specs.declared.Conn.{Conn}
 use Rattle.session_connections.specs.declared.Closes.{Closes}
 use Rattle.response_words.specs.ResponseWords.{unfit_refusal}
-use Rattle.response_words.specs.declared.FromWords.{FromWords}
-use Rattle.response_words.specs.declared.FromWords.TheVariants as F
+use Rattle.response_words.specs.declared.Unfit.{Unfit}
 use Rattle.session_words.specs.State.{session_of, window_maps, session_numbers}
 use Rattle.session_changes.specs.Changes.{window_numbers, ledger_numbers, conn_numbers, shut_numbers}
 use Rattle.answer_words.specs.Answer.{answer_words}
@@ -94,9 +93,9 @@ pub data Asked : Type 0 where
   sends_unfit : (connection stated : ℕ) → (out : Outputs) → Asked
 
 -- What a send asks, by what its words are, with the record that it is given.
-abbrev pub sends : FromWords → (connection ticket : ℕ) → Record → (out : Outputs) → Asked
-sends (F.Response r) c t x o = calls (send c t r x o)
-sends (F.Unfit d) c t x o = sends_unfit c d o
+abbrev pub sends : Result Response Unfit → (connection ticket : ℕ) → Record → (out : Outputs) → Asked
+sends (Ok r) c t x o = calls (send c t r x o)
+sends (Err u) c t x o = sends_unfit c u.stated o
 
 -- The contract of each.
 abbrev pub SaidBy : Asked → SessionWords → List ℕ → Outputs → SessionWords → Type 0

@@ -9,7 +9,7 @@ ghost use Rattle.call_words.specs.Session.{session_words, Said};
 
 use answer_words::IMMEDIATE;
 use session_changes::store_window;
-use session_commands::{OfferAnswer, TakeAnswer};
+use session_commands::Offered;
 use session_words::load;
 
 // Offers a whole PDU with its ticket on a connection.
@@ -29,16 +29,15 @@ pub fn offer(
         (session_words n.new m.new (commands headers.new tickets.new) ss) }
 {
     let s = load(n, m);
-    let step = session_commands::offer(s, conn, ticket, pdu, headers, tickets);
-    let window = step.window;
-    let a = step.answer;
-    match a {
-        OfferAnswer::Refused(f) => answer_words::pack_refused(f),
-        OfferAnswer::Immediate => answer_words::pack(IMMEDIATE, 0),
-        OfferAnswer::Numbered(x) => {
-            store_window(n, m, window);
-            call_answer_words::placed(x)
-        }
+    match session_commands::offer(s, conn, ticket, pdu, headers, tickets) {
+        Ok(step) => match step.answer {
+            Offered::Immediate => answer_words::pack(IMMEDIATE, 0),
+            Offered::Numbered(x) => {
+                store_window(n, m, step.window);
+                call_answer_words::placed(x)
+            }
+        },
+        Err(f) => answer_words::pack_refused(f),
     }
 }
 
@@ -58,16 +57,13 @@ pub fn take(
         (session_words n.new m.new (commands headers.now tickets.now) ss) }
 {
     let s = load(n, m);
-    let step = session_commands::take(s, headers, tickets, out);
-    let after = step.window;
-    let a = step.answer;
-    match a {
-        TakeAnswer::Refused(f) => {
-            *answer = answer_words::refused(f);
+    match session_commands::take(s, headers, tickets, out) {
+        Ok(taken) => {
+            store_window(n, m, taken.window);
+            *answer = call_answer_words::handed_out(taken.answer);
         }
-        TakeAnswer::Taken(x) => {
-            store_window(n, m, after);
-            *answer = call_answer_words::handed_out(x);
+        Err(f) => {
+            *answer = answer_words::refused(f);
         }
     }
 }

@@ -11,7 +11,6 @@ ghost use Rattle.call_words.specs.Session.{session_words, Said};
 use answer_words::DONE;
 use book::Opening;
 use session_changes::{close, store_conn, store_window};
-use session_connections::{LogoutAnswer, OpenAnswer};
 use session_words::load;
 
 // Opens a connection that isn't open, with its first StatSN.
@@ -22,11 +21,10 @@ pub fn open(n: &mut [u32; 15], m: &mut [u64; 6], conn: u32, stat_sn: u32) -> u64
         (packed result) no_outputs
         (session_words n.new m.new k ss) }
 {
-    let s = load(n, m);
-    let given = Opening { stat_sn: stat_sn };
-    match session_connections::open_connection(s, conn, given) {
-        OpenAnswer::Refused(f) => answer_words::pack_refused(f),
-        OpenAnswer::Opened(k) => {
+    let given = Opening { stat_sn };
+    match session_connections::open_connection(load(n, m), conn, given) {
+        Err(f) => answer_words::pack_refused(f),
+        Ok(k) => {
             store_conn(n, conn, k);
             answer_words::pack(DONE, 0)
         }
@@ -41,22 +39,12 @@ pub fn logout(n: &mut [u32; 15], m: &mut [u64; 6], conn: u32, reason: u8, answer
         answer.new no_outputs
         (session_words n.new m.new k ss) }
 {
-    let s = load(n, m);
-    let step = session_connections::logout(s, conn, reason);
-    let window = step.window;
-    let a = step.answer;
-    match a {
-        LogoutAnswer::Refused(f) => {
-            *answer = answer_words::refused(f);
+    *answer = match session_connections::logout(load(n, m), conn, reason) {
+        Err(f) => answer_words::refused(f),
+        Ok(l) => {
+            store_window(n, m, l.window);
+            close(n, conn, l.closes);
+            call_answer_words::logged_out(l.emptied, l.voided)
         }
-        LogoutAnswer::LoggedOut {
-            emptied,
-            voided,
-            closes,
-        } => {
-            store_window(n, m, window);
-            close(n, conn, closes);
-            *answer = call_answer_words::logged_out(emptied, voided);
-        }
-    }
+    };
 }

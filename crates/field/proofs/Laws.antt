@@ -1,13 +1,13 @@
 -- Big-endian fields, over the width: reading (`be-suc`, `be-lt`) and writing (`bytes-join`, `bytes_cut`; `sets-append`, `paste-sets`).
--- And bytes copied one by one, over their count (`Pasting`).
 use mathlib.Core.Path.{◌≡◌, refl, sym, ap, subst, ◌∙◌}
 use mathlib.Core.List.{List, [], ◌∷◌, ◌++◌, append_assoc, append-nil}
 use Prim.Native.Nat.{ℕ, zero, suc, ◌+◌, ◌*◌, ◌/◌, ◌%◌, ◌^◌, ◌<◌, ◌≤◌}
-use native.Mathlib.Nat.{pow-suc, mod-lt, div-add-mod', zero-add, mul_assoc, add-suc, suc-add, add-zero}
+use native.Mathlib.Nat.{pow-suc, pow-succ', div-div-eq-div-mul, mod-lt, div-add-mod', zero-add, mul_assoc, add-suc, suc-add, add-zero}
 use native.Mathlib.Numerals.{add-one}
 use native.Mathlib.Omega.{arith}
-use lib.ListN.{length, get_or, set, take, length-append, length-set}
-use lib.Seq.{paste, paste-zero, paste-suc, sets, sets-eq, take_all}
+use lib.ListN.{length, get_or, set, take, length-append}
+use lib.Seq.{paste, sets, sets-eq, take_all}
+use Rattle.std.specs.Int.{byte_at, bytes_high_first}
 use Rattle.field.specs.Field.{be_at, bytes_of}
 
 pub be-suc : (s : List ℕ) (at n : ℕ) → be_at s at (n + 1) ≡ be_at s at n * 256 + get_or s (at + n) 0
@@ -38,6 +38,20 @@ bytes-join n (suc m) v u h =
     let low : (v * 256 ^ suc m + u) % 256 ≡ u % 256 = omega (arith, x) in
     rw (add-suc, high, low, bytes-join n m v (u / 256) (omega (arith, p))) (append_assoc (bytes_of n v) (bytes_of m (u / 256)) (u % 256 ∷ []))
 
+-- the library's bytes of a number are these
+byte_above : (i v : ℕ) → byte_at (suc i) v ≡ byte_at i (v / 256)
+byte_above zero v = refl
+byte_above (suc i) v = ap (λ (p : ℕ). v / p % 256) (pow-succ' 256 (suc i)) ∙ ap (λ (p : ℕ). p % 256) (sym (div-div-eq-div-mul v 256 (256 ^ suc i)))
+
+last_apart : (n v : ℕ) → bytes_high_first (suc n) v ≡ bytes_high_first n (v / 256) ++ (v % 256 ∷ [])
+last_apart zero v = refl
+last_apart (suc n) v = rw (byte_above n v, last_apart n v)
+
+pub bytes-high_first : (n v : ℕ) → bytes_high_first n v ≡ bytes_of n v
+unfolding bytes_of
+bytes-high_first zero v = refl
+bytes-high_first (suc n) v = last_apart n v ∙ ap (λ (b : List ℕ). b ++ (v % 256 ∷ [])) (bytes-high_first n (v / 256))
+
 pos-pow : (n : ℕ) → 0 < 256 ^ n
 pos-pow zero = omega arith
 pos-pow (suc n) = rw pow-suc (omega (arith, pos-pow n))
@@ -62,24 +76,3 @@ pub paste-sets : (l : List ℕ) (at : ℕ) (b : List ℕ) (n : ℕ) → length b
 paste-sets l at b n e h =
     let all : take n b ≡ b = ap (λ (k : ℕ). take k b) (sym e) ∙ take_all (length b) b (omega arith) in
     rw (all, ← e) (sym (sets-eq b l at (subst (λ (k : ℕ). at + k ≤ length l) (sym e) h)))
-
--- a loop that copies n bytes of s into d from `at` on: i of them are copied, and x is what d is then
-abbrev pub Pasting : ℕ → List ℕ → ℕ → List ℕ → List ℕ → ℕ → Type 0
-Pasting n d at s x i = (i ≤ n) × (x ≡ paste d at s i) × (length x ≡ length d)
-
-module _ (n : ℕ) (d : List ℕ) (at : ℕ) (s : List ℕ) where
-  pub paste_none : Pasting n d at s d 0
-  paste_none = (omega arith, paste-zero d at s, refl)
-
-  pub paste-next : at + n ≤ length d → length s ≡ n → (x : List ℕ) (i : ℕ) → i < n → Pasting n d at s x i
-      → Pasting n d at s (set x (at + i) (get_or s i 0)) (i + 1)
-  paste-next b e x i l p = (
-    omega arith,
-    rw (p.1, add-one) (paste-suc d at s i 0 (omega arith) (omega arith)),
-    length-set x (at + i) (get_or s i 0) ∙ p.2,
-  )
-
-  pub paste-last : (x : List ℕ) (i : ℕ) → n ≤ i → Pasting n d at s x i → x ≡ paste d at s n
-  paste-last x i l p =
-      let e : i ≡ n = omega arith in
-      rw e at p.1

@@ -3,7 +3,6 @@
 
 ghost use Rattle.std.specs.Prelude.{◌≡◌, ◌+◌, ◌^◌, ◌≤◌, ◌<◌, length, ◌++◌};
 ghost use Rattle.std.proofs.lemmas.List.Edits.{sets};
-ghost use Rattle.std.proofs.Math.Seq.{paste};
 ghost use Rattle.field.specs.Field.{be_at, bytes_of, bit};
 
 // The length of a header.
@@ -12,26 +11,19 @@ pub const HEADER_BYTES: usize = 48;
 // A tag that stands for none.
 pub const NONE: u32 = 0xffff_ffff;
 
-fn wide(x: u8) -> u64
-    ensures { result ≡ x }
-{
-    x as u64
-}
-
 // The n bytes from at on, as one big-endian number.
 pub fn be(s: &[u8], at: usize, n: usize) -> u64
     requires { (n ≤ 8) × (at + n ≤ length s.now) }
     ensures { (result ≡ be_at s.now at n) × (result < 256 ^ n) }
 {
     let mut v: u64 = 0;
-    let mut i = 0;
-    while i < n {
-        v = v * 256 + wide(s[at + i]);
-        i += 1;
+    for &b in &s[at..at + n] {
+        v = v * 256 + b as u64;
     }
     v
 }
 
+// be16 and be32 are two lines over be, put and put_four one over place: a trait over their types would be longer than they are.
 pub fn be16(s: &[u8], at: usize) -> u16
     requires { at + 2 ≤ length s.now }
     ensures { result ≡ be_at s.now at 2 }
@@ -54,39 +46,12 @@ pub fn flag(b: u8, k: u8) -> bool
     b / k % 2 == 1
 }
 
-// The eight bytes of v, the highest first.
-fn bytes_of(v: u64) -> [u8; 8]
-    ensures { result ≡ bytes_of 8 v }
+// Writes bytes from at on. They come by value, so that the copy is of memory that nothing else refers to: it compiles to one store.
+fn place<const N: usize>(h: &mut [u8], at: usize, bytes: [u8; N])
+    requires { at + N ≤ length h.old }
+    ensures { h.new ≡ sets h.old at bytes.entry }
 {
-    let v1 = v / 256;
-    let v2 = v1 / 256;
-    let v3 = v2 / 256;
-    let v4 = v3 / 256;
-    let v5 = v4 / 256;
-    let v6 = v5 / 256;
-    let v7 = v6 / 256;
-    [
-        (v7 % 256) as u8,
-        (v6 % 256) as u8,
-        (v5 % 256) as u8,
-        (v4 % 256) as u8,
-        (v3 % 256) as u8,
-        (v2 % 256) as u8,
-        (v1 % 256) as u8,
-        (v % 256) as u8,
-    ]
-}
-
-// Writes eight bytes from at on. They come by value, so that the copy is of memory that nothing else refers to: it compiles to one store.
-fn place(h: &mut [u8], at: usize, bytes: [u8; 8])
-    requires { at + 8 ≤ length h.old }
-    ensures { h.new ≡ paste h.old at bytes 8 }
-{
-    let mut i: usize = 0;
-    while i < 8 {
-        h[at + i] = bytes[i];
-        i += 1;
-    }
+    h[at..at + N].copy_from_slice(&bytes);
 }
 
 // Writes v into the eight bytes from at on, the highest byte first.
@@ -94,35 +59,7 @@ pub fn put(h: &mut [u8], at: usize, v: u64)
     requires { at + 8 ≤ length h.old }
     ensures { h.new ≡ sets h.old at (bytes_of 8 v) }
 {
-    let bytes = bytes_of(v);
-    place(h, at, bytes);
-}
-
-// The four bytes of v, the highest first.
-fn four_bytes_of(n: u32) -> [u8; 4]
-    ensures { result ≡ bytes_of 4 n }
-{
-    let n1 = n / 256;
-    let n2 = n1 / 256;
-    let n3 = n2 / 256;
-    [
-        (n3 % 256) as u8,
-        (n2 % 256) as u8,
-        (n1 % 256) as u8,
-        (n % 256) as u8,
-    ]
-}
-
-// Writes four bytes from at on, by value as place does.
-fn place_four(h: &mut [u8], at: usize, bytes: [u8; 4])
-    requires { at + 4 ≤ length h.old }
-    ensures { h.new ≡ paste h.old at bytes 4 }
-{
-    let mut i: usize = 0;
-    while i < 4 {
-        h[at + i] = bytes[i];
-        i += 1;
-    }
+    place::<8>(h, at, v.to_be_bytes());
 }
 
 // Writes v into the four bytes from at on, the highest byte first.
@@ -130,8 +67,7 @@ pub fn put_four(h: &mut [u8], at: usize, v: u32)
     requires { at + 4 ≤ length h.old }
     ensures { h.new ≡ sets h.old at (bytes_of 4 v) }
 {
-    let bytes = four_bytes_of(v);
-    place_four(h, at, bytes);
+    place::<4>(h, at, v.to_be_bytes());
 }
 
 // A number of eight bytes from its two halves.

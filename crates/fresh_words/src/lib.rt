@@ -7,6 +7,7 @@ ghost use Rattle.call_words.specs.Given.{given_of};
 ghost use Rattle.call_words.specs.Session.{session_words, FreshWords};
 
 use book::{Given, Opening};
+use session::FreshSession;
 use session_kept::store;
 
 // A fresh session: its first command number, connection 0's first StatSN, the ErrorRecoveryLevel.
@@ -26,15 +27,17 @@ pub fn fresh(
         (statuses_in statuses.new status_tickets.new)) }
 {
     let f = session::fresh(Given {
-        first: first,
-        level: level,
-        opening: Opening { stat_sn: stat_sn },
+        first,
+        level,
+        opening: Opening { stat_sn },
     });
-    let s = f.session;
-    let h = f.headers;
-    let t = f.tickets;
-    let hs = f.statuses;
-    let ts = f.status_tickets;
+    let FreshSession {
+        session: s,
+        headers: h,
+        tickets: t,
+        statuses: hs,
+        status_tickets: ts,
+    } = f;
     *headers = h;
     *tickets = t;
     *statuses = hs;

@@ -6,45 +6,39 @@ mod hex;
 mod responses;
 mod show;
 
-ghost use Rattle.std.specs.Prelude.{◌≤◌, length};
+ghost use Rattle.std.specs.Prelude.{◌≤◌};
 
-use print::{fill, find, past, put, put_with};
-use request_header::{LIMITS, ReadAnswer};
+use print::fill;
+use request_header::LIMITS;
 use std::io;
 use std::io::Write;
 
-// The number that the decimal digits after a place are, up to the first other byte; at most 65535.
-fn number_after(text: &[u8], plus: usize) -> usize
-    requires { plus ≤ length text.now }
+// The number that the decimal digits after the first plus sign are, up to the first other byte; at most 65535.
+fn added(line: &[u8]) -> usize
     ensures { result ≤ 65535 }
 {
+    let Some(plus) = line.iter().position(|b| *b == b'+') else {
+        return 0;
+    };
     let mut n: usize = 0;
-    let mut i = plus + 1;
-    while i < text.len() {
-        let d = text[i];
-        if (d < b'0') | (b'9' < d) {
+    for &d in &line[plus + 1..] {
+        if !d.is_ascii_digit() {
             return n;
         }
         n = (n * 10 + (d % 16) as usize) % 65536;
-        i += 1;
     }
     n
 }
 
-fn put_ends<W: Write>(to: &mut W, first: u8, last: u8) -> io::Result<()> {
-    put_with(
-        to,
-        b"    data starts %1, ends %1\n",
-        &[first as u64, last as u64],
-    )
-}
-
 // The data segment's first and last byte, where it has any.
 fn ends<W: Write>(to: &mut W, data: &[u8]) -> io::Result<()> {
-    if data.len() == 0 {
-        return Ok(());
+    match data {
+        [] => Ok(()),
+        [first, ..] => {
+            let last = data[data.len() - 1];
+            writeln!(to, "    data starts {first:02x}, ends {last:02x}")
+        }
     }
-    put_ends(to, data[0], data[data.len() - 1])
 }
 
 // Reads the PDU that the first n bytes of the buffer are.
@@ -52,48 +46,39 @@ fn read_first<W: Write>(to: &mut W, buffer: &[u8], n: usize) -> io::Result<()> {
     if buffer.len() < n {
         return Ok(());
     }
-    let pdu = &buffer[0..n];
-    let a = request_pdu::read(pdu, LIMITS);
-    show::answer(to, a)?;
-    match a {
-        ReadAnswer::Got(p) => ends(to, request_pdu::data_of(pdu, p)),
-        ReadAnswer::Refused(_) => Ok(()),
+    let pdu = &buffer[..n];
+    match request_pdu::read(pdu, LIMITS) {
+        Ok(p) => {
+            show::pdu(to, p)?;
+            ends(to, request_pdu::data_of(pdu, p))
+        }
+        Err(f) => show::refused(to, f),
     }
 }
 
 fn run_vector<W: Write>(to: &mut W, line: &[u8]) -> io::Result<()> {
     let mut pdu = [0x61u8; 9000];
     let n = hex::unhex(line, &mut pdu);
-    let more = number_after(line, find(line, 0, b'+'));
-    read_first(to, &pdu, n + more)
+    read_first(to, &pdu, n + added(line))
 }
 
 fn run_line<W: Write>(to: &mut W, line: &[u8]) -> io::Result<()> {
-    if line.len() == 0 {
-        return Ok(());
+    match line {
+        [] => Ok(()),
+        [b'#', ..] => {
+            to.write_all(line)?;
+            to.write_all(b"\n")
+        }
+        _ => run_vector(to, line),
     }
-    if line[0] == b'#' {
-        put(to, line)?;
-        put(to, b"\n")
-    } else {
-        run_vector(to, line)
-    }
-}
-
-fn run_all<W: Write>(to: &mut W, script: &[u8]) -> io::Result<()> {
-    let mut at = 0;
-    while at < script.len() {
-        let end = find(script, at, b'\n');
-        run_line(to, &script[at..end])?;
-        at = past(script, end);
-    }
-    Ok(())
 }
 
 fn main(rt: HostRuntime) -> io::Result<()> {
     let mut buffer = [0u8; 65536];
     let n = fill(&mut rt.stdin(), &mut buffer)?;
     let mut to = io::writer(&rt);
-    run_all(&mut to, &buffer[..n])?;
+    for line in buffer[..n].split(|b| *b == b'\n') {
+        run_line(&mut to, line)?;
+    }
     responses::run_all(&mut to)
 }

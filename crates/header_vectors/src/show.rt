@@ -1,125 +1,97 @@
 // A read PDU as one line: its kind and its fields.
-use print::{part, put, put_refused, put_with};
+use refusal::{Refusal, number_of};
 use request_header::{
-    DataOut, Login, Logout, NopOut, Pdu, ReadAnswer, Request, ScsiCommand, Snack, TaskManagement,
+    DataOut, Login, Logout, NopOut, Pdu, Request, ScsiCommand, Snack, TaskManagement,
 };
 use std::io;
 use std::io::Write;
 
-fn kind(r: Request) -> usize {
+fn kind(r: Request) -> &'static str {
     match r {
-        Request::NopOut(_) => 0,
-        Request::ScsiCommand(_) => 1,
-        Request::TaskManagement(_) => 2,
-        Request::Login(_) => 3,
-        Request::DataOut(_) => 4,
-        Request::Logout(_) => 5,
-        Request::Snack(_) => 6,
+        Request::NopOut(_) => "nop-out",
+        Request::ScsiCommand(_) => "scsi-command",
+        Request::TaskManagement(_) => "task-management",
+        Request::Login(_) => "login",
+        Request::DataOut(_) => "data-out",
+        Request::Logout(_) => "logout",
+        Request::Snack(_) => "snack",
     }
 }
 
 // The kind, and the fields that each kind has.
 fn common<W: Write>(to: &mut W, p: Pdu) -> io::Result<()> {
-    let r = p.request;
-    put(
+    write!(
         to,
-        part(
-            b"nop-out|scsi-command|task-management|login|data-out|logout|snack",
-            kind(r),
-        ),
-    )?;
-    put_with(
-        to,
-        b" i=%d cmdsn=0x%4 lun=0x%8 itt=0x%4 expstatsn=0x%4",
-        &[
-            p.immediate as u64,
-            p.cmd_sn as u64,
-            p.lun,
-            p.initiator_task_tag as u64,
-            p.exp_stat_sn as u64,
-        ],
+        "{} i={} cmdsn=0x{:08x} lun=0x{:016x} itt=0x{:08x} expstatsn=0x{:08x}",
+        kind(p.request),
+        p.immediate as u8,
+        p.cmd_sn,
+        p.lun,
+        p.initiator_task_tag,
+        p.exp_stat_sn,
     )
 }
 
 fn nop_out<W: Write>(to: &mut W, x: NopOut) -> io::Result<()> {
-    put_with(to, b" ttt=0x%4", &[x.target_transfer_tag as u64])
+    write!(to, " ttt=0x{:08x}", x.target_transfer_tag)
 }
 
 fn scsi_command<W: Write>(to: &mut W, x: ScsiCommand) -> io::Result<()> {
-    put_with(
+    write!(
         to,
-        b" f=%d r=%d w=%d attribute=%d edtl=0x%4 cdb0=0x%8 cdb1=0x%8 ahs=%d",
-        &[
-            x.is_final as u64,
-            x.is_read as u64,
-            x.is_write as u64,
-            x.attribute as u64,
-            x.expected_data_transfer_length as u64,
-            x.cdb_0,
-            x.cdb_1,
-            x.total_ahs_length as u64,
-        ],
+        " f={} r={} w={} attribute={} edtl=0x{:08x} cdb0=0x{:016x} cdb1=0x{:016x} ahs={}",
+        x.is_final as u8,
+        x.is_read as u8,
+        x.is_write as u8,
+        x.attribute,
+        x.expected_data_transfer_length,
+        x.cdb_0,
+        x.cdb_1,
+        x.total_ahs_length,
     )
 }
 
 fn task_management<W: Write>(to: &mut W, x: TaskManagement) -> io::Result<()> {
-    put_with(
+    write!(
         to,
-        b" function=%d rtt=0x%4 refcmdsn=0x%4 expdatasn=0x%4",
-        &[
-            x.function as u64,
-            x.referenced_task_tag as u64,
-            x.ref_cmd_sn as u64,
-            x.exp_data_sn as u64,
-        ],
+        " function={} rtt=0x{:08x} refcmdsn=0x{:08x} expdatasn=0x{:08x}",
+        x.function, x.referenced_task_tag, x.ref_cmd_sn, x.exp_data_sn,
     )
 }
 
 fn login<W: Write>(to: &mut W, x: Login) -> io::Result<()> {
-    put_with(
+    write!(
         to,
-        b" t=%d c=%d csg=%d nsg=%d versionmax=%d versionmin=%d isid=0x%8 tsih=0x%2 cid=0x%2",
-        &[
-            x.transit as u64,
-            x.continues as u64,
-            x.csg as u64,
-            x.nsg as u64,
-            x.version_max as u64,
-            x.version_min as u64,
-            x.isid,
-            x.tsih as u64,
-            x.cid as u64,
-        ],
+        " t={} c={} csg={} nsg={} versionmax={} versionmin={} isid=0x{:016x} tsih=0x{:04x} cid=0x{:04x}",
+        x.transit as u8,
+        x.continues as u8,
+        x.csg,
+        x.nsg,
+        x.version_max,
+        x.version_min,
+        x.isid,
+        x.tsih,
+        x.cid,
     )
 }
 
 fn data_out<W: Write>(to: &mut W, x: DataOut) -> io::Result<()> {
-    put_with(
+    write!(
         to,
-        b" f=%d ttt=0x%4 datasn=0x%4 offset=0x%4",
-        &[
-            x.is_final as u64,
-            x.target_transfer_tag as u64,
-            x.data_sn as u64,
-            x.buffer_offset as u64,
-        ],
+        " f={} ttt=0x{:08x} datasn=0x{:08x} offset=0x{:08x}",
+        x.is_final as u8, x.target_transfer_tag, x.data_sn, x.buffer_offset,
     )
 }
 
 fn logout<W: Write>(to: &mut W, x: Logout) -> io::Result<()> {
-    put_with(to, b" reason=%d cid=0x%2", &[x.reason as u64, x.cid as u64])
+    write!(to, " reason={} cid=0x{:04x}", x.reason, x.cid)
 }
 
 fn snack<W: Write>(to: &mut W, x: Snack) -> io::Result<()> {
-    put_with(
+    write!(
         to,
-        b" type=%d ttt=0x%4 begrun=0x%4 runlength=0x%4",
-        &[
-            x.snack_type as u64,
-            x.target_transfer_tag as u64,
-            x.beg_run as u64,
-            x.run_length as u64,
-        ],
+        " type={} ttt=0x{:08x} begrun=0x{:08x} runlength=0x{:08x}",
+        x.snack_type, x.target_transfer_tag, x.beg_run, x.run_length,
     )
 }
 
@@ -135,20 +107,12 @@ fn own<W: Write>(to: &mut W, r: Request) -> io::Result<()> {
     }
 }
 
-fn pdu<W: Write>(to: &mut W, p: Pdu) -> io::Result<()> {
-    let r = p.request;
+pub fn pdu<W: Write>(to: &mut W, p: Pdu) -> io::Result<()> {
     common(to, p)?;
-    own(to, r)?;
-    put_with(
-        to,
-        b" data=%d+%d\n",
-        &[p.data_start as u64, p.data_segment_length as u64],
-    )
+    own(to, p.request)?;
+    writeln!(to, " data={}+{}", p.data_start, p.data_segment_length)
 }
 
-pub fn answer<W: Write>(to: &mut W, a: ReadAnswer) -> io::Result<()> {
-    match a {
-        ReadAnswer::Got(p) => pdu(to, p),
-        ReadAnswer::Refused(f) => put_refused(to, f),
-    }
+pub fn refused<W: Write>(to: &mut W, f: Refusal) -> io::Result<()> {
+    writeln!(to, "refused {}", number_of(f))
 }

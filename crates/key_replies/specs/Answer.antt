@@ -1,5 +1,5 @@
 -- The answer to a judged pair, in bytes.
-use Rattle.std.specs.Prelude.{ℕ, Bool, true, false, List, [], ◌∷◌, ◌++◌}
+use Rattle.std.specs.Prelude.{ℕ, Bool, true, false, List, [], ◌∷◌, ◌++◌, Result, Ok, Err}
 use Rattle.text.specs.Text.{pick, bytes}
 use Rattle.text_number.specs.Number.{decimal}
 use Rattle.key_values.specs.declared.value.Reply.{Reply}
@@ -36,10 +36,10 @@ unfoldable pub answer_text : List ℕ → Reply → List ℕ
 answer_text n r = answer_from (n ++ (61 ∷ [])) r
 
 -- a refused pair gets none
-abbrev pub reply_in : Judgement → Reply
-reply_in (J.Refused status) = A.Silent
-reply_in (J.Said r) = r
-reply_in (J.Settles x r) = r
+abbrev pub reply_in : Result Judgement ℕ → Reply
+reply_in (Err status) = A.Silent
+reply_in (Ok (J.Said r)) = r
+reply_in (Ok (J.Settles x r)) = r
 
-abbrev pub said_text : List ℕ → Judgement → List ℕ
+abbrev pub said_text : List ℕ → Result Judgement ℕ → List ℕ
 said_text n j = answer_text n (reply_in j)

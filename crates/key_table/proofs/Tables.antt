@@ -2,19 +2,20 @@
 use mathlib.Core.Path.{◌≡◌, refl, sym, ap, ◌∙◌, subst}
 use mathlib.Core.Bool.{Bool, true, false, not, ◌&&◌, ◌||◌}
 use mathlib.Core.List.{List, [], ◌∷◌, map}
-use Prim.Native.Nat.{ℕ, zero, suc, ◌-◌, ◌<◌, ◌≤◌}
+use Prim.Native.Nat.{ℕ, suc, ◌<◌, ◌≤◌}
 use native.Mathlib.Omega.{arith}
 use lib.ListN.{get_or, length}
+use lib.Seq.{ext_get_or}
+use Rattle.std.proofs.lemmas.List.{get_or-map}
 use native.Mathlib.Nat.{not-suc-le-zero, le_of_suc-le-suc}
 use lib.Dec.{leb, ltb, eqb}
 use borrow.Author.Tests.{ltb-true, le-ltb, eqb-true, eq-eqb, ne_eqb}
-use Rattle.text.specs.Text.{bytes, same, pick, all}
+use Rattle.text.specs.Text.{same, pick, all}
 use Rattle.text.proofs.Laws.{below, at, same-eq, &&-left, &&-right, false-true}
 use Rattle.text_block.specs.Block.{good_name, name_byte}
 use Rattle.key_table.specs.Table.{Known, known, key, key_of, name_at, kind_at, place_in, row, rows, row_at, is_bool}
 use Rattle.key_table.specs.declared.table.Kind.{Kind}
 use Rattle.key_table.specs.declared.table.Kind.TheVariants as K
-use Rattle.key_table.specs.declared.table.Rule.{Rule}
 use Rattle.key_table.specs.declared.table.Rule.TheVariants as R
 use Rattle.key_table.specs.declared.table.Row.{Row}
 
@@ -86,24 +87,10 @@ unknown n h = omega (arith, key-most n, h)
 pub known-formed : (n : List ℕ) → key_of n < 28 → good_name n ≡ true
 known-formed n p = subst (λ (m : List ℕ). good_name m ≡ true) (sym (known-name n p)) (key-formed (key_of n) p)
 
--- The columns are the fields of the rows.
-column : {A B : Type 0} (f : A → B) (l : List A) (k : ℕ) (d : B) (e : A) → k < length l → get_or (map f l) k d ≡ f (get_or l k e)
-column f [] k d e h = absurd (not-suc-le-zero h)
-column f (x ∷ l) zero d e h = refl
-column f (x ∷ l) (suc k) d e h = column f l k d e (le_of_suc-le-suc h)
-
-module _ (k : ℕ) (h : k < 12) (r : Rule) (n : ℕ) where
-  pub columns : ◌≡◌ {A = Row} (record {
-    rule = get_or (map (λ (q : Row). q.rule) rows) k r;
-    low = get_or (map (λ (q : Row). q.low) rows) k n;
-    high = get_or (map (λ (q : Row). q.high) rows) k n;
-    standard = get_or (map (λ (q : Row). q.standard) rows) k n;
-    ours = get_or (map (λ (q : Row). q.ours) rows) k n;
-  }) (row_at k)
-  unfolding row_at rows
-  columns =
-      let e = row R.Declared 0 0 0 0 in
-      rw (column (λ (q : Row). q.rule) rows k r e h, column (λ (q : Row). q.low) rows k n e h, column (λ (q : Row). q.high) rows k n e h, column (λ (q : Row). q.standard) rows k n e h, column (λ (q : Row). q.ours) rows k n e h)
+-- A list of the rows' values at a field is that column.
+pub column : (f : Row → ℕ) (l : List ℕ) → length l ≡ 12 → ((i : ℕ) → i < 12 → get_or l i 0 ≡ f (row_at i)) → l ≡ map f rows
+unfolding rows row_at
+column f l e h = ext_get_or 0 l (map f rows) e (λ i b. let k : i < 12 = omega (arith, e, b) in h i k ∙ sym (get_or-map f rows i (row R.Declared 0 0 0 0) 0 k))
 
 -- What a key is: a test over a run of keys, past those that are skipped.
 unfoldable pub code : Kind → ℕ
@@ -165,6 +152,8 @@ module _ (k : ℕ) where
   pub is-refused : k < 28 → 24 ≤ k → kind_at k ≡ K.Refused
   unfolding all_are kind_at known code
   is-refused h l = kind-in K.Refused (λ (i : ℕ). ltb i 24) 28 refl k h (le-ltb k 24 l)
+
+pub ruleset kinds = (is-negotiated, is-digest, is-marker)
 
 -- A key of the table is one of the first twelve.
 unfoldable tabled : ℕ → Bool

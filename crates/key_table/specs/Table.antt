@@ -1,5 +1,5 @@
 -- The known keys: their names, what each is, and the table of twelve with rule, range and standard value.
-use Rattle.std.specs.Prelude.{ℕ, zero, suc, Bool, true, false, List, [], ◌∷◌, map, get_or, replicate}
+use Rattle.std.specs.Prelude.{ℕ, suc, Bool, true, false, List, [], ◌∷◌, map, get_or, replicate}
 use Prim.Native.String.{String}
 use Rattle.text.specs.Text.{pick, bytes, same}
 use Rattle.key_table.specs.declared.table.Kind.{Kind}
@@ -7,7 +7,6 @@ use Rattle.key_table.specs.declared.table.Kind.TheVariants as K
 use Rattle.key_table.specs.declared.table.Rule.{Rule}
 use Rattle.key_table.specs.declared.table.Rule.TheVariants as R
 use Rattle.key_table.specs.declared.table.Row.{Row}
-use Rattle.key_table.specs.declared.parameters.Parameters.{Parameters}
 use Rattle.key_table.specs.declared.parameters.Settled.{Settled}
 
 pub record Known : Type 0 where

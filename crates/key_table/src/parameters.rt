@@ -2,6 +2,8 @@
 ghost use Rattle.std.specs.Prelude.{◌≡◌};
 ghost use Rattle.key_table.specs.Table.{standards, own, none_seen};
 
+use crate::table::ROWS;
+
 // The place of the one key of the table that is declared.
 pub const MAX_RECV_DATA_SEGMENT_LENGTH: usize = 6;
 
@@ -12,22 +14,21 @@ pub struct Parameters {
 
 impl Parameters {
     // In force until a key is settled.
-    pub const STANDARD: [u32; 12] = [1, 1, 1, 1, 1, 1, 8192, 262144, 65536, 2, 20, 0];
-    // What we bring to the settling: the standard value, but 4 MaxConnections and ErrorRecoveryLevel 1.
-    pub const OURS: [u32; 12] = [4, 1, 1, 1, 1, 1, 8192, 262144, 65536, 2, 20, 1];
-
     pub fn standard() -> Self
         ensures { result.values ≡ standards }
     {
         Self {
-            values: Self::STANDARD,
+            values: ROWS.map(|row| row.standard),
         }
     }
 
+    // What we bring to the settling: the standard value, but 4 MaxConnections and ErrorRecoveryLevel 1.
     pub fn ours() -> Self
         ensures { result.values ≡ own }
     {
-        Self { values: Self::OURS }
+        Self {
+            values: ROWS.map(|row| row.ours),
+        }
     }
 }
 

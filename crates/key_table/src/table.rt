@@ -2,8 +2,6 @@
 ghost use Rattle.std.specs.Prelude.{◌≡◌, ◌<◌};
 ghost use Rattle.key_table.specs.Table.{kind_at, row_at};
 
-use crate::parameters::Parameters;
-
 // What a known key is, in the order of the rules that judge it.
 #[derive(Clone, Copy)]
 pub enum Kind {
@@ -55,42 +53,43 @@ pub const INITIATOR_NAME: usize = 16;
 
 pub const TARGET_NAME: usize = 17;
 
-// The table of twelve keys, in the order of their names; its standard values and ours are those of Parameters.
-const RULES: [Rule; 12] = [
-    Rule::Least,
-    Rule::Least,
-    Rule::Or,
-    Rule::Or,
-    Rule::Or,
-    Rule::And,
-    Rule::Declared,
-    Rule::Least,
-    Rule::Least,
-    Rule::Greatest,
-    Rule::Least,
-    Rule::Least,
-];
+// A row of the table on one line: rule, range, standard value, and ours.
+macro_rules! row {
+    ($rule:ident, $low:literal, $high:literal, $standard:literal, $ours:literal) => {
+        Row {
+            rule: Rule::$rule,
+            low: $low,
+            high: $high,
+            standard: $standard,
+            ours: $ours,
+        }
+    };
+}
 
-const LOWS: [u32; 12] = [1, 1, 0, 0, 0, 0, 512, 512, 512, 0, 0, 0];
-
-const HIGHS: [u32; 12] = [
-    65535, 65535, 1, 1, 1, 1, 16777215, 16777215, 16777215, 3600, 3600, 2,
+// The twelve keys, in the order of their names.
+pub(crate) static ROWS: [Row; 12] = [
+    row!(Least, 1, 65535, 1, 4), // MaxConnections
+    row!(Least, 1, 65535, 1, 1), // MaxOutstandingR2T
+    row!(Or, 0, 1, 1, 1), // InitialR2T
+    row!(Or, 0, 1, 1, 1), // DataPDUInOrder
+    row!(Or, 0, 1, 1, 1), // DataSequenceInOrder
+    row!(And, 0, 1, 1, 1), // ImmediateData
+    row!(Declared, 512, 16777215, 8192, 8192), // MaxRecvDataSegmentLength
+    row!(Least, 512, 16777215, 262144, 262144), // MaxBurstLength
+    row!(Least, 512, 16777215, 65536, 65536), // FirstBurstLength
+    row!(Greatest, 0, 3600, 2, 2), // DefaultTime2Wait
+    row!(Least, 0, 3600, 20, 20), // DefaultTime2Retain
+    row!(Least, 0, 2, 0, 1), // ErrorRecoveryLevel
 ];
 
 pub fn row_of(k: usize) -> Row
     requires { k < 12 }
     ensures { result ≡ row_at k }
 {
-    let rule = RULES[k];
-    Row {
-        rule,
-        low: LOWS[k],
-        high: HIGHS[k],
-        standard: Parameters::STANDARD[k],
-        ours: Parameters::OURS[k],
-    }
+    ROWS[k]
 }
 
+#[tactic(auto, using(crate::proofs::Tables::kinds), unfolding(crate::specs::Table::kind_at, crate::specs::Table::known))]
 pub fn kind_of(k: usize) -> Kind
     requires { k < 28 }
     ensures { result ≡ kind_at k }

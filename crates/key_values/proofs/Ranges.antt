@@ -6,9 +6,8 @@ use Prim.Native.Nat.{ℕ, ◌<◌}
 use native.Mathlib.Omega.{arith}
 use borrow.Author.Tests.{leb-true, ltb-false, eqb-true}
 use lib.Dec.{eqb, ltb, leb}
+use Rattle.std.specs.Prelude.{Option, Some, None}
 use Rattle.text.specs.Text.{pick}
-use Rattle.text_number.specs.declared.number.Number.{Number}
-use Rattle.text_number.specs.declared.number.Number.TheVariants as N
 use Rattle.text.proofs.Laws.{below, at, &&-left, &&-right}
 use Rattle.key_table.specs.Table.{rows, row_at, is_bool}
 use Rattle.key_values.specs.Settle.{In, bool_of, ranged, offered, settled_by, settling_offer, settling}
@@ -16,21 +15,19 @@ use Rattle.text_number.specs.Number.{number_of}
 use Rattle.key_table.specs.declared.table.Rule.{Rule}
 use Rattle.key_table.specs.declared.table.Rule.TheVariants as R
 use Rattle.key_table.specs.declared.table.Row.{Row}
-use Rattle.key_values.specs.declared.value.Offer.{Offer}
-use Rattle.key_values.specs.declared.value.Offer.TheVariants as O
 use Rattle.key_values.specs.declared.value.Reply.{Reply}
 use Rattle.key_values.specs.declared.value.Judgement.TheVariants as J
 
-offer-go : (s t : Bool) (a b n m : ℕ) → ltb n a ≡ s → ltb b n ≡ t → pick s O.Bad (pick t O.Bad (O.Good n)) ≡ O.Good m → In a b m
-offer-go true t a b n m p q e = let z : ◌≡◌ {A = ℕ} 0 1 = cc in absurd (omega arith)
-offer-go false true a b n m p q e = let z : ◌≡◌ {A = ℕ} 0 1 = cc in absurd (omega arith)
+offer-go : (s t : Bool) (a b n m : ℕ) → ltb n a ≡ s → ltb b n ≡ t → pick s None (pick t None (Some n)) ≡ Some m → In a b m
+offer-go true t a b n m p q e = cc
+offer-go false true a b n m p q e = cc
 offer-go false false a b n m p q e =
     let z : n ≡ m = cc in
     record { least = omega (arith, ltb-false n a p, z); most = omega (arith, ltb-false b n q, z) }
 
-ranged-in : (a b : ℕ) (x : Number) (m : ℕ) → ranged a b x ≡ O.Good m → In a b m
-ranged-in a b N.Bad m e = let z : ◌≡◌ {A = ℕ} 0 1 = cc in absurd (omega arith)
-ranged-in a b (N.Value n) m e = offer-go (ltb n a) (ltb b n) a b n m refl refl e
+ranged-in : (a b : ℕ) (x : Option ℕ) (m : ℕ) → ranged a b x ≡ Some m → In a b m
+ranged-in a b None m e = cc
+ranged-in a b (Some n) m e = offer-go (ltb n a) (ltb b n) a b n m refl refl e
 
 -- ours lies in the range too, and a boolean's range is 0 to 1
 right : Row → Bool
@@ -58,10 +55,10 @@ by-rule R.Or low high a b p q e = bit_in (eqb a 1 || eqb b 1) low high (eqb-true
 by-rule R.And low high a b p q e = bit_in (eqb a 1 && eqb b 1) low high (eqb-true low 0 (&&-left _ _ e)) (eqb-true high 1 (&&-right (eqb low 0) _ e))
 by-rule R.Declared low high a b p q e = p
 
-settled-go : (r : Row) (o : Offer) (n : ℕ) (y : Reply) → ((m : ℕ) → o ≡ O.Good m → In r.low r.high m) → right r ≡ true → settling_offer r o ≡ J.Settles n y → In r.low r.high n
+settled-go : (r : Row) (o : Option ℕ) (n : ℕ) (y : Reply) → ((m : ℕ) → o ≡ Some m → In r.low r.high m) → right r ≡ true → settling_offer r o ≡ J.Settles n y → In r.low r.high n
 unfolding right
-settled-go r O.Bad n y g t e = let z : ◌≡◌ {A = ℕ} 0 1 = cc in absurd (omega arith)
-settled-go r (O.Good a) n y g t e =
+settled-go r None n y g t e = cc
+settled-go r (Some a) n y g t e =
     let c : settled_by r.rule a r.ours ≡ n = cc in
     let o : In r.low r.high r.ours = record { least = leb-true _ _ (&&-left _ _ (&&-left _ _ t)); most = leb-true _ _ (&&-right (leb r.low r.ours) _ (&&-left _ _ t)) } in
     rw (← c) (by-rule r.rule r.low r.high a r.ours (g a refl) o (&&-right (leb r.low r.ours && leb r.ours r.high) _ t))

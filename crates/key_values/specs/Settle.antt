@@ -1,15 +1,11 @@
 -- What the value of a key of the table settles, and how it is answered.
-use Rattle.std.specs.Prelude.{ℕ, ◌≤◌, Bool, true, false, ◌&&◌, ◌||◌, List, set, replicate, get_or, eqb, ltb, leb}
-use Rattle.text.specs.Text.{pick, bytes, same, within}
+use Rattle.std.specs.Prelude.{ℕ, ◌≤◌, ◌&&◌, ◌||◌, List, set, eqb, ltb, Option, Some, None}
+use Rattle.text.specs.Text.{pick, bytes, same}
 use Rattle.text_number.specs.Number.{number_of}
-use Rattle.text_number.specs.declared.number.Number.{Number}
-use Rattle.text_number.specs.declared.number.Number.TheVariants as N
 use Rattle.key_table.specs.Table.{is_bool}
 use Rattle.key_table.specs.declared.table.Rule.{Rule}
 use Rattle.key_table.specs.declared.table.Rule.TheVariants as R
 use Rattle.key_table.specs.declared.table.Row.{Row}
-use Rattle.key_values.specs.declared.value.Offer.{Offer}
-use Rattle.key_values.specs.declared.value.Offer.TheVariants as O
 use Rattle.key_values.specs.declared.value.Reply.{Reply}
 use Rattle.key_values.specs.declared.value.Reply.TheVariants as A
 use Rattle.key_values.specs.declared.value.Judgement.{Judgement}
@@ -17,16 +13,16 @@ use Rattle.key_values.specs.declared.value.Judgement.TheVariants as J
 use Rattle.key_table.specs.declared.parameters.Parameters.{Parameters}
 
 -- Yes is 1 and No is 0
-unfoldable pub bool_of : List ℕ → Number
-bool_of v = pick (same v (bytes "Yes")) (N.Value 1) (pick (same v (bytes "No")) (N.Value 0) N.Bad)
+unfoldable pub bool_of : List ℕ → Option ℕ
+bool_of v = pick (same v (bytes "Yes")) (Some 1) (pick (same v (bytes "No")) (Some 0) None)
 
 -- good where it is a number within the range
-abbrev pub ranged : ℕ → ℕ → Number → Offer
-ranged a b N.Bad = O.Bad
-ranged a b (N.Value n) = pick (ltb n a) O.Bad (pick (ltb b n) O.Bad (O.Good n))
+abbrev pub ranged : ℕ → ℕ → Option ℕ → Option ℕ
+ranged a b None = None
+ranged a b (Some n) = pick (ltb n a) None (pick (ltb b n) None (Some n))
 
 -- the offered value of a key of the table
-unfoldable pub offered : Row → List ℕ → Offer
+unfoldable pub offered : Row → List ℕ → Option ℕ
 offered row v = ranged row.low row.high (pick (is_bool row.rule) (bool_of v) (number_of v))
 
 -- least, greatest, or, and of the offer and ours; the offer itself where it is declared
@@ -49,9 +45,9 @@ reply_for R.And n = yes_no n
 reply_for R.Declared n = A.Silent
 
 -- A bad or out-of-range value is answered Reject and changes nothing.
-abbrev pub settling_offer : Row → Offer → Judgement
-settling_offer row O.Bad = J.Said A.Reject
-settling_offer row (O.Good a) = J.Settles (settled_by row.rule a row.ours) (reply_for row.rule (settled_by row.rule a row.ours))
+abbrev pub settling_offer : Row → Option ℕ → Judgement
+settling_offer row None = J.Said A.Reject
+settling_offer row (Some a) = J.Settles (settled_by row.rule a row.ours) (reply_for row.rule (settled_by row.rule a row.ours))
 
 unfoldable pub settling : Row → List ℕ → Judgement
 settling row v = settling_offer row (offered row v)

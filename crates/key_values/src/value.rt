@@ -7,7 +7,7 @@ ghost use Rattle.key_values.specs.Settle.{bool_of, ranged, settled_by, yes_no, r
 
 use key_table::table::{Rule, row_of};
 use text::slice::same_bytes;
-use text_number::number::{Number, number_of};
+use text_number::number::number_of;
 
 // What a pair is answered.
 #[derive(Clone, Copy)]
@@ -23,22 +23,13 @@ pub enum Reply {
     Number(u32),
 }
 
-// A judged pair.
+// A judged pair that no status refuses.
 #[derive(Clone, Copy)]
 pub enum Judgement {
-    // This status refuses the login.
-    Refused(u16),
     // Answered, and settles no value.
     Said(Reply),
     // This value is in force from now on.
     Settles(u32, Reply),
-}
-
-// An offered value of a key of the table.
-#[derive(Clone, Copy)]
-pub enum Offer {
-    Good(u32),
-    Bad,
 }
 
 // Four keys of the table have boolean values.
@@ -51,37 +42,33 @@ fn is_bool(k: usize) -> bool
 
 // Yes is 1 and No is 0.
 #[tactic(auto, unfolding(crate::specs::Settle::bool_of))]
-fn bool_of(v: &[u8]) -> Number
+fn bool_of(v: &[u8]) -> Option<u64>
     ensures { result ≡ bool_of v.now }
 {
     if same_bytes(v, b"Yes") {
-        return Number::Value(1);
+        return Some(1);
     }
     if same_bytes(v, b"No") {
-        return Number::Value(0);
+        return Some(0);
     }
-    Number::Bad
+    None
 }
 
-fn in_range(n: Number, low: u32, high: u32) -> Offer
+fn in_range(n: Option<u64>, low: u32, high: u32) -> Option<u32>
     ensures { result ≡ ranged low high n }
 {
-    match n {
-        Number::Bad => Offer::Bad,
-        Number::Value(x) => {
-            if x < low as u64 {
-                return Offer::Bad;
-            }
-            if (high as u64) < x {
-                return Offer::Bad;
-            }
-            Offer::Good(x as u32)
-        }
+    let x = n?;
+    if x < low as u64 {
+        return None;
     }
+    if (high as u64) < x {
+        return None;
+    }
+    Some(x as u32)
 }
 
 // The offer, good where it has the right form, a boolean's or a number's, and lies in the range.
-fn offered_in(boolean: bool, low: u32, high: u32, v: &[u8]) -> Offer
+fn offered_in(boolean: bool, low: u32, high: u32, v: &[u8]) -> Option<u32>
     ensures { result ≡ ranged low high (pick boolean (bool_of v.now) (number_of v.now)) }
 {
     if boolean {
@@ -95,8 +82,8 @@ fn settle_by(rule: Rule, a: u32, b: u32) -> u32
     ensures { result ≡ settled_by rule a b }
 {
     match rule {
-        Rule::Least => if a < b { a } else { b },
-        Rule::Greatest => if a < b { b } else { a },
+        Rule::Least => a.min(b),
+        Rule::Greatest => a.max(b),
         Rule::Or => ((a == 1) | (b == 1)) as u32,
         Rule::And => ((a == 1) & (b == 1)) as u32,
         Rule::Declared => a,
@@ -123,19 +110,15 @@ fn reply_for(rule: Rule, n: u32) -> Reply
 }
 
 // An offered value of key k of the table: settled, or rejected.
+#[tactic(auto, unfolding(crate::specs::Settle::settling, crate::specs::Settle::offered))]
 pub fn settle(k: usize, v: &[u8]) -> Judgement
     requires { k < 12 }
     ensures { result ≡ settling (row_at k) v.now }
 {
     let row = row_of(k);
-    let n = offered_in(is_bool(k), row.low, row.high, v);
-    match n {
-        Offer::Bad => Judgement::Said(Reply::Reject),
-        Offer::Good(x) => {
-            let rule = row.rule;
-            let y = settle_by(rule, x, row.ours);
-            let reply = reply_for(rule, y);
-            Judgement::Settles(y, reply)
-        }
-    }
+    let Some(x) = offered_in(is_bool(k), row.low, row.high, v) else {
+        return Judgement::Said(Reply::Reject);
+    };
+    let y = settle_by(row.rule, x, row.ours);
+    Judgement::Settles(y, reply_for(row.rule, y))
 }

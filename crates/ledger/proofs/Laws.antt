@@ -4,12 +4,14 @@ use Prim.Native.Nat.{ℕ, zero, suc, ◌+◌, ◌-◌, ◌*◌, ◌%◌, ◌^◌
 use mathlib.Core.Path.{◌≡◌, refl, sym, ap, ◌∙◌, subst}
 use mathlib.Core.Bool.{Bool, true, false, ◌&&◌}
 use mathlib.Core.List.{List, [], ◌∷◌, ◌++◌}
+use Rattle.std.specs.Prelude.{Ok, Err}
+use Rattle.std.specs.Bool.{then_some}
 use native.Mathlib.Nat.{zero-add}
 use native.Mathlib.Omega.{arith}
 use native.Mathlib.Decide.{ℕ_discrete, dec_lt}
 use lib.ListN.{length, get_or, set, drop, length-append, length-drop, length-set, get_or-append}
-use lib.Dec.{eqb}
-use borrow.Author.Tests.{lt-ltb, le-ltb, le-leb, lt-leb, eq-eqb, ne_eqb}
+use lib.Dec.{eqb, leb}
+use borrow.Author.Tests.{lt-ltb, le-ltb, le-leb, lt-leb}
 use Rattle.field.specs.Field.{pick, byte, bytes_of}
 use Rattle.task_book.specs.declared.Numbering.{Numbering}
 use Rattle.task_book.specs.Steps.{exp_data_sn_of}
@@ -19,31 +21,17 @@ use Rattle.refusal.specs.declared.Refusal.{Refusal}
 use Rattle.response_header.specs.declared.Response.{Response}
 use Rattle.field.proofs.Laws.{length-bytes, sets-append}
 use Rattle.refusal.proofs.Laws.{number-positive}
-use lib.Seq.{paste, sets, get_or-set_same, get_or-set_other, length-paste, set-append_left, length-sets, take_all, take_at, drop_at}
+use lib.Seq.{paste, sets, get_or-set_same, get_or-set_other, length-paste, set-append_left, length-sets, take_at, drop_at}
 use Rattle.store.specs.Slot.{in_slot}
 use Rattle.store.proofs.Slots.{slot_same, slot-other}
 use Rattle.ledger.specs.declared.Ledger.{Ledger}
 use Rattle.ledger.specs.declared.Renewal.{Renewal}
-use Rattle.ledger.specs.Book.{Status, LedgerBook, oldest, place, is_status, is_full, refused, not_stored, stored, sending, header_for, send_bytes, sent, released, run, run_at, run_of, with_tag, renewed_for, renewed, Found, missing, found, lookup, status_of}
+use Rattle.ledger.specs.Book.{Status, LedgerBook, oldest, place, is_status, is_full, refused, not_stored, stored, sending, header_for, send_bytes, sent, released, run_at, run_of, with_tag, renewed_for, renewed, Found, missing, found, lookup, status_of}
+use Rattle.ledger.specs.Book as Book
 use Rattle.ledger.specs.declared.Sent.TheVariants as S
-use Rattle.ledger.specs.declared.Run.TheVariants as R
 use Rattle.ledger.specs.Answer.{resent, running, run_answer}
 use Rattle.ledger.specs.Answer as Answers
 use Rattle.ledger.specs.Agree.{Statuses, statuses_in, SlotHas, Agrees, Puts, Stored, Sends, Showing, showing}
-
-pub oldest-is : (b : LedgerBook) (o l h : ℕ) → l ≡ b.next → h ≡ length b.held → length b.held ≤ 32 → b.next < 2 ^ 32
-    → o < 2 ^ 32 → (o + h) % 2 ^ 32 ≡ l → o ≡ oldest b
-unfolding oldest
-oldest-is b o l h e1 e2 few fit lo e3 = omega arith
-
-away : (n o k : ℕ) → o < 2 ^ 32 → (k + o) % 2 ^ 32 ≡ n → k < 2 ^ 32 → k ≡ (n + (2 ^ 32 - o)) % 2 ^ 32
-away n o k lo e lk = omega arith
-
-pub place_is : (b : LedgerBook) (n o k l h : ℕ) → l ≡ b.next → h ≡ length b.held → length b.held ≤ 32 → b.next < 2 ^ 32
-    → o < 2 ^ 32 → (o + h) % 2 ^ 32 ≡ l → (k + o) % 2 ^ 32 ≡ n → k < 2 ^ 32 → k ≡ place b n
-unfolding place
-place_is b n o k l h e1 e2 few fit lo e3 e4 lk =
-    away n o k lo e4 lk ∙ ap (λ (x : ℕ). (n + (2 ^ 32 - x)) % 2 ^ 32) (oldest-is b o l h e1 e2 few fit lo e3)
 
 -- ---- what is found
 
@@ -191,21 +179,25 @@ release-agrees c l r ss b e g le e2 e3 = record {
 -- ---- runs
 
 module _ (b : LedgerBook) (begin len k h : ℕ) (ek : k ≡ place b begin) (eh : h ≡ length b.held) (n : (eqb begin 0 && eqb len 0) ≡ false) where
-  pub run-far : h ≤ k → run_answer R.NotHeld ≡ running (run_of b begin len)
+  pub run-far : h ≤ k → Answers.refused 12 ≡ running (run_of b begin len)
   unfolding run_of run_at
   run-far l = rw (n, ← ek, ← eh, le-ltb k h l)
 
-  pub run-rest : k < h → len ≡ 0 → running (run begin (h - k)) ≡ running (run_of b begin len)
+  -- m are asked for: len, or all from begin on
+  pub run-near : k < h → (m : ℕ) → m ≡ pick (eqb len 0) (h - k) len
+      → run_answer (then_some (leb m (h - k)) (record { first = begin; count = m })) ≡ running (run_of b begin len)
   unfolding run_of run_at
-  run-rest l z = rw (n, ← ek, ← eh, lt-ltb k h l, eq-eqb len 0 z)
+  run-near l m e = rw (e, n, ← ek, ← eh, lt-ltb k h l) (go (eqb len 0))
+    where
+      held : (z : Bool) → run_answer (then_some z (record { first = begin; count = len })) ≡ running (pick z (Book.run begin len) Book.not_held)
+      held true = refl
+      held false = refl
 
-  pub run-part : k < h → (len ≡ 0 → ⊥) → len ≤ h - k → running (run begin len) ≡ running (run_of b begin len)
-  unfolding run_of run_at
-  run-part l z m = rw (n, ← ek, ← eh, lt-ltb k h l, ne_eqb len 0 z, le-leb len (h - k) m)
-
-  pub run_long : k < h → (len ≡ 0 → ⊥) → h - k < len → run_answer R.NotHeld ≡ running (run_of b begin len)
-  unfolding run_of run_at
-  run_long l z m = rw (n, ← ek, ← eh, lt-ltb k h l, ne_eqb len 0 z, lt-leb len (h - k) m)
+      go : (z : Bool)
+          → run_answer (then_some (leb (pick z (h - k) len) (h - k)) (record { first = begin; count = pick z (h - k) len }))
+          ≡ running (pick z (Book.run begin (h - k)) (pick (leb len (h - k)) (Book.run begin len) Book.not_held))
+      go true = rw (le-leb (h - k) (h - k) (omega arith))
+      go false = held (leb len (h - k))
 
 -- ---- a status shown again
 
@@ -327,9 +319,6 @@ module _ (h out : List ℕ) (z : length h ≡ 48) where
 
 -- ---- send
 
-pub front : (o x : List ℕ) → length x ≡ 48 → paste o 0 x 48 ≡ x ++ drop 48 o
-front o x e = ap (λ (r : List ℕ). r ++ drop 48 o) (take_all 48 x (omega arith))
-
 pub same-header : (b : LedgerBook) (r : Response) (n e m : ℕ) → n ≡ b.next
     → header_bytes r (record { stat_sn = n; exp_cmd_sn = e; max_cmd_sn = m }) ≡ header_for b r e m
 unfolding header_for
@@ -360,7 +349,7 @@ module _ (b : LedgerBook) (longest : ℕ) (due : Bool) (r : Response) where
 
 module _ (c : ℕ) (l : Ledger) (ticket : ℕ) (r : Response) (longest : ℕ) (due : Bool) (e m : ℕ) (out : List ℕ) (ss : Statuses) where
   pub sends-refused : (f : Refusal) → ((b : LedgerBook) → Agrees c l ss b → sending b longest due r ≡ refused (number f))
-      → Sends c l ticket r longest due e m out ss (S.Refused f) out ss
+      → Sends c l ticket r longest due e m out ss (Err f) out ss
   unfolding send_bytes
   sends-refused f q = record {
     meets = λ b g. record { answer = sym (q b g); bytes = rw (q b g); agrees = tt };
@@ -378,7 +367,7 @@ module _ (c : ℕ) (l : Ledger) (ticket : ℕ) (r : Response) (longest : ℕ) (d
     right b g = is ∙ same-header b r l.next e m g.next
 
     pub sends-unstored : is_status r ≡ false → ((b : LedgerBook) → Agrees c l ss b → sending b longest due r ≡ not_stored b.next)
-        → Sends c l ticket r longest due e m out ss (S.NotStored l.next) (h ++ drop 48 out) ss
+        → Sends c l ticket r longest due e m out ss (Ok (S.NotStored l.next)) (h ++ drop 48 out) ss
     unfolding send_bytes
     sends-unstored s q = record {
       meets = λ b g. record {
@@ -396,7 +385,7 @@ module _ (c : ℕ) (l : Ledger) (ticket : ℕ) (r : Response) (longest : ℕ) (d
 
     pub sends-stored : (l' : Ledger) (ss' : Statuses) → is_status r ≡ true → Stored c l ticket h ss l' ss'
         → ((b : LedgerBook) → Agrees c l ss b → sending b longest due r ≡ stored b.next)
-        → Sends c l ticket r longest due e m out ss (S.Stored l.next l') (h ++ drop 48 out) ss'
+        → Sends c l ticket r longest due e m out ss (Ok (S.Stored l.next l')) (h ++ drop 48 out) ss'
     unfolding send_bytes
     sends-stored l' ss' s k q = record {
       meets = λ b g. record {

@@ -1,21 +1,19 @@
 -- Follows the code: how its ledger of connection c, with the arrays that the four connections share, stands for a ledger
 -- of the book; and the contracts of its functions.
-use Rattle.std.specs.Prelude.{ℕ, ◌+◌, ◌*◌, ◌%◌, ◌^◌, ◌<◌, ◌≤◌, ◌≡◌, Bool, true, false, List, ◌++◌, length, get_or, set, take, drop}
+use Rattle.std.specs.Prelude.{ℕ, ◌+◌, ◌*◌, ◌%◌, ◌^◌, ◌<◌, ◌≤◌, ◌≡◌, Bool, true, false, List, ◌++◌, length, get_or, set, take, drop, Option, Some, None, Result, Ok, Err}
 use Rattle.std.proofs.Math.Seq.{paste}
 use Rattle.refusal.specs.Refusal.{number}
+use Rattle.refusal.specs.declared.Refusal.{Refusal}
 use Rattle.response_header.specs.declared.Response.{Response}
 use Rattle.store.specs.Slot.{header_size, in_slot}
-use Rattle.ledger.specs.Book.{statuses, connections, Status, LedgerBook, fresh_ledger, is_status, oldest, place, Sending, refused, not_stored, stored, sending, header_for, send_bytes, sent, released, Found, missing, found, lookup, status_of, renewed}
+use Rattle.ledger.specs.Book.{statuses, connections, LedgerBook, fresh_ledger, is_status, oldest, Sending, refused, not_stored, stored, sending, header_for, send_bytes, sent, released, Found, missing, found, lookup, status_of, renewed}
 use Rattle.ledger.specs.Answer.{Answer, resent, acknowledging, acknowledged_answer, resent_answer}
 use Rattle.ledger.specs.Answer as Answers
 use Rattle.ledger.specs.declared.Ledger.{Ledger}
 use Rattle.ledger.specs.declared.Renewal.{Renewal}
 use Rattle.ledger.specs.declared.Sent.{Sent}
 use Rattle.ledger.specs.declared.Sent.TheVariants as S
-use Rattle.ledger.specs.declared.Acknowledged.{Acknowledged}
-use Rattle.ledger.specs.declared.Acknowledged.TheVariants.{Stale, Good}
-use Rattle.ledger.specs.declared.Resent.{Resent}
-use Rattle.ledger.specs.declared.Resent.TheVariants as A
+use Rattle.ledger.specs.declared.Released.{Released}
 
 -- The slots of the four connections.
 abbrev pub ledger_slots : ℕ
@@ -65,33 +63,33 @@ pub record Stored (c : ℕ) (l : Ledger) (ticket : ℕ) (header : List ℕ) (ss 
 
 -- ---- send
 
-abbrev pub sent_of : Sent → Sending
-sent_of (S.Refused f) = refused (number f)
-sent_of (S.NotStored n) = not_stored n
-sent_of (S.Stored n l) = stored n
+abbrev pub sent_of : Result Sent Refusal → Sending
+sent_of (Err f) = refused (number f)
+sent_of (Ok (S.NotStored n)) = not_stored n
+sent_of (Ok (S.Stored n l)) = stored n
 
 -- The ledger after a send that stores; of the others it stays the caller's.
-abbrev pub SentAgrees : (c : ℕ) → Sent → Statuses → LedgerBook → Type 0
-SentAgrees c (S.Refused f) ss b = Unit {0}
-SentAgrees c (S.NotStored n) ss b = Unit {0}
-SentAgrees c (S.Stored n l) ss b = Agrees c l ss b
+abbrev pub SentAgrees : (c : ℕ) → Result Sent Refusal → Statuses → LedgerBook → Type 0
+SentAgrees c (Err f) ss b = Unit {0}
+SentAgrees c (Ok (S.NotStored n)) ss b = Unit {0}
+SentAgrees c (Ok (S.Stored n l)) ss b = Agrees c l ss b
 
 -- Of any ledger: "A refusal .. changes nothing"; what is not stored leaves the arrays; what is stored, the first 48 bytes of
 -- the output, changes one slot.
-abbrev pub SentStays : (c ticket : ℕ) → Response → Sent → (out out' : List ℕ) → Statuses → Statuses → Type 0
-SentStays c t r (S.Refused f) o o' ss ss' = (o' ≡ o) × (ss' ≡ ss)
-SentStays c t r (S.NotStored n) o o' ss ss' = (is_status r ≡ false) × (ss' ≡ ss)
-SentStays c t r (S.Stored n l) o o' ss ss' = (is_status r ≡ true) × Puts c n t (take header_size o') ss ss'
+abbrev pub SentStays : (c ticket : ℕ) → Response → Result Sent Refusal → (out out' : List ℕ) → Statuses → Statuses → Type 0
+SentStays c t r (Err f) o o' ss ss' = (o' ≡ o) × (ss' ≡ ss)
+SentStays c t r (Ok (S.NotStored n)) o o' ss ss' = (is_status r ≡ false) × (ss' ≡ ss)
+SentStays c t r (Ok (S.Stored n l)) o o' ss ss' = (is_status r ≡ true) × Puts c n t (take header_size o') ss ss'
 
-pub record SendsAt (c ticket : ℕ) (r : Response) (longest : ℕ) (due : Bool) (e m : ℕ) (out : List ℕ) (x : Sent) (out' : List ℕ) (ss' : Statuses)
-    (b : LedgerBook) : Type 0 where
+pub record SendsAt (c ticket : ℕ) (r : Response) (longest : ℕ) (due : Bool) (e m : ℕ) (out : List ℕ) (x : Result Sent Refusal) (out' : List ℕ)
+    (ss' : Statuses) (b : LedgerBook) : Type 0 where
   pub answer : sent_of x ≡ sending b longest due r
   pub bytes : out' ≡ send_bytes (sending b longest due r) (header_for b r e m) out
   pub agrees : SentAgrees c x ss' (sent b (record { header = header_for b r e m; ticket = ticket }))
 
 -- Of any ledger the output keeps its length, and its bytes from 48 on.
-pub record Sends (c : ℕ) (l : Ledger) (ticket : ℕ) (r : Response) (longest : ℕ) (due : Bool) (e m : ℕ) (out : List ℕ) (ss : Statuses) (x : Sent)
-    (out' : List ℕ) (ss' : Statuses) : Type 0 where
+pub record Sends (c : ℕ) (l : Ledger) (ticket : ℕ) (r : Response) (longest : ℕ) (due : Bool) (e m : ℕ) (out : List ℕ) (ss : Statuses)
+    (x : Result Sent Refusal) (out' : List ℕ) (ss' : Statuses) : Type 0 where
   pub meets : (b : LedgerBook) → Agrees c l ss b → SendsAt c ticket r longest due e m out x out' ss' b
   pub others : (k : ℕ) (n : Ledger) (b : LedgerBook) → (k ≡ c → ⊥) → Agrees k n ss b → Agrees k n ss' b
   pub headers_size : length ss.headers ≡ ledger_slots * header_size → length ss'.headers ≡ ledger_slots * header_size
@@ -103,11 +101,11 @@ pub record Sends (c : ℕ) (l : Ledger) (ticket : ℕ) (r : Response) (longest :
 -- ---- acknowledge, resend
 
 -- The ledger after an acknowledgement that is good; of a stale one it stays the caller's.
-abbrev pub AcknowledgedAgrees : (c : ℕ) → Statuses → Acknowledged → LedgerBook → Type 0
-AcknowledgedAgrees c ss Stale b = Unit {0}
-AcknowledgedAgrees c ss (Good n l) b = Agrees c l ss b
+abbrev pub AcknowledgedAgrees : (c : ℕ) → Statuses → Option Released → LedgerBook → Type 0
+AcknowledgedAgrees c ss None b = Unit {0}
+AcknowledgedAgrees c ss (Some x) b = Agrees c x.ledger ss b
 
-pub record AcknowledgesAt (c : ℕ) (ss : Statuses) (r : Acknowledged) (b : LedgerBook) (e : ℕ) : Type 0 where
+pub record AcknowledgesAt (c : ℕ) (ss : Statuses) (r : Option Released) (b : LedgerBook) (e : ℕ) : Type 0 where
   pub answer : acknowledged_answer r ≡ acknowledging b e
   pub agrees : AcknowledgedAgrees c ss r (released b e)
 
@@ -120,12 +118,12 @@ unfoldable pub showing : Found → Renewal → List ℕ → Showing
 showing missing x out = record { answer = Answers.refused 12; bytes = out }
 showing (found s) x out = record { answer = resent s.ticket; bytes = renewed s.header x ++ drop header_size out }
 
-abbrev pub ResentStays : Resent → List ℕ → List ℕ → Type 0
-ResentStays A.NotHeld o o' = o' ≡ o
-ResentStays (A.Status t) o o' = Unit {0}
+abbrev pub ResentStays : Option ℕ → List ℕ → List ℕ → Type 0
+ResentStays None o o' = o' ≡ o
+ResentStays (Some t) o o' = Unit {0}
 
 -- Of any ledger the output keeps its length, and its bytes from 48 on.
-pub record Resends (c : ℕ) (l : Ledger) (n : ℕ) (x : Renewal) (ss : Statuses) (out : List ℕ) (r : Resent) (out' : List ℕ) : Type 0 where
+pub record Resends (c : ℕ) (l : Ledger) (n : ℕ) (x : Renewal) (ss : Statuses) (out : List ℕ) (r : Option ℕ) (out' : List ℕ) : Type 0 where
   pub meets : (b : LedgerBook) → Agrees c l ss b → ◌≡◌ {A = Showing} (record { answer = resent_answer r; bytes = out' }) (showing (status_of b n) x out)
   pub stays : ResentStays r out out'
   pub out_size : length out' ≡ length out

@@ -1,14 +1,10 @@
--- Paper 01's number and values of what a ledger answers to an acknowledgement, a SNACK and a resend: by the rules, and by the code's enums.
-use Rattle.std.specs.Prelude.{ℕ}
+-- Paper 01's number and values of what a ledger answers to an acknowledgement, a SNACK and a resend: by the rules, and by what the code gives back.
+use Rattle.std.specs.Prelude.{ℕ, Option, Some, None}
 use Rattle.field.specs.Field.{pick}
 use Rattle.ledger.specs.Book.{LedgerBook, place, is_good, not_held}
 use Rattle.ledger.specs.Book as Book
-use Rattle.ledger.specs.declared.Acknowledged.{Acknowledged}
-use Rattle.ledger.specs.declared.Acknowledged.TheVariants.{Stale, Good}
+use Rattle.ledger.specs.declared.Released.{Released}
 use Rattle.ledger.specs.declared.Run.{Run}
-use Rattle.ledger.specs.declared.Run.TheVariants as R
-use Rattle.ledger.specs.declared.Resent.{Resent}
-use Rattle.ledger.specs.declared.Resent.TheVariants as A
 
 -- "A refusal returns its number": 11 is STALE, 12 is SNACK.
 pub data Answer : Type 0 where
@@ -28,14 +24,14 @@ running (Book.run f n) = run f n
 
 -- ---- the code's answers
 
-abbrev pub acknowledged_answer : Acknowledged → Answer
-acknowledged_answer Stale = refused 11
-acknowledged_answer (Good n l) = acknowledged n
+abbrev pub acknowledged_answer : Option Released → Answer
+acknowledged_answer None = refused 11
+acknowledged_answer (Some x) = acknowledged x.count
 
-abbrev pub run_answer : Run → Answer
-run_answer R.NotHeld = refused 12
-run_answer (R.Of f n) = run f n
+abbrev pub run_answer : Option Run → Answer
+run_answer None = refused 12
+run_answer (Some x) = run x.first x.count
 
-abbrev pub resent_answer : Resent → Answer
-resent_answer A.NotHeld = refused 12
-resent_answer (A.Status t) = resent t
+abbrev pub resent_answer : Option ℕ → Answer
+resent_answer None = refused 12
+resent_answer (Some t) = resent t

@@ -6,7 +6,6 @@
 
 ghost use Rattle.ledger.specs.Agree.{Opened};
 
-use refusal::Refusal;
 use task_book::Numbering;
 
 // The statuses that a ledger can hold, and its slots.
@@ -36,30 +35,27 @@ pub struct Renewal {
     pub numbering: Numbering,
 }
 
+// What a send wrote.
 #[derive(Clone, Copy)]
 pub enum Sent {
-    Refused(Refusal),
     // The StatSN of a NOP-In that is no status.
     NotStored(u32),
+    // A status, with the connection's ledger after it.
     Stored { stat_sn: u32, ledger: Ledger },
 }
 
+// What an acknowledgement released: how many statuses, and the ledger after it.
 #[derive(Clone, Copy)]
-pub enum Acknowledged {
-    Stale,
-    Good { count: u32, ledger: Ledger },
+pub struct Released {
+    pub count: u32,
+    pub ledger: Ledger,
 }
 
+// A run of held statuses: its first number, and how many.
 #[derive(Clone, Copy)]
-pub enum Run {
-    NotHeld,
-    Of { first: u32, count: u32 },
-}
-
-#[derive(Clone, Copy)]
-pub enum Resent {
-    NotHeld,
-    Status(u32),
+pub struct Run {
+    pub first: u32,
+    pub count: u32,
 }
 
 // The ledger of a connection that is opened with this first StatSN: it holds nothing.

@@ -30,9 +30,8 @@ pub fn keep(
     let slot = c * SLOTS_EACH + (next % STATUSES) as usize;
     response_writer::place(headers, slot * HEADER_BYTES, o, n);
     tickets[slot] = ticket;
-    let after = std::num::wrapping_add_u32(next, 1);
     Ledger {
-        next: after,
+        next: next.wrapping_add(1),
         held: l.held + 1,
     }
 }

@@ -13,12 +13,7 @@ pub fn is_status(r: Response) -> bool
 {
     match r {
         Response::NopIn(x) => x.initiator_task_tag != NONE,
-        Response::ScsiResponse(_) => true,
-        Response::TaskManagementResponse(_) => true,
-        Response::LoginResponse(_) => true,
-        Response::DataIn(_) => false,
-        Response::LogoutResponse(_) => true,
-        Response::R2t(_) => false,
-        Response::Reject(_) => true,
+        Response::DataIn(_) | Response::R2t(_) => false,
+        _ => true,
     }
 }

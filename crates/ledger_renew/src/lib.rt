@@ -16,6 +16,7 @@ const SNACK_TAG: usize = 20;
 const EXP_DATA_SN: usize = 36;
 
 // Puts the tag of a SNACK of type 3 into a SCSI Response; where none came, its own stays.
+#[tactic(auto, unfolding(ledger::specs::Book::with_tag))]
 fn put_tag(out: &mut [u8], tag: u32)
     requires { header_size ≤ length out.old }
     ensures { out.new ≡ with_tag out.old tag }
@@ -26,6 +27,7 @@ fn put_tag(out: &mut [u8], tag: u32)
 }
 
 // Renews what a SCSI Response has of its task; another status has nothing of one.
+#[tactic(auto, unfolding(ledger::specs::Book::renewed_for))]
 pub fn renew_for(n: Numbering, out: &mut [u8])
     requires { header_size ≤ length out.old }
     ensures { out.new ≡ renewed_for n out.old }

@@ -10,7 +10,8 @@ use ledger::{LEDGER_BYTES, LEDGER_SLOTS, Ledger, STATUSES, Sent};
 use ledger_keep::keep;
 use ledger_kinds::is_status;
 use refusal::Refusal;
-use response_header::{Judgement, Numbers, Response};
+use response_header::judge::judge;
+use response_header::{Numbers, Response};
 
 // Sends a response on connection c: its header, with the next StatSN and both window numbers, into the first 48 bytes
 // of out, and header and ticket into the ledger. Writing's refusals, with the longest data written, come first, then FIELD
@@ -27,37 +28,31 @@ pub fn send(
     out: &mut [u8],
     headers: &mut [u8; LEDGER_BYTES],
     tickets: &mut [u32; LEDGER_SLOTS],
-) -> Sent
+) -> Result<Sent, Refusal>
     requires { (c < connections) × (header_size ≤ length out.old) }
     ensures { Sends c l ticket r max_data due exp_cmd_sn max_cmd_sn
         out.old (statuses_in headers.old tickets.old)
         result out.new (statuses_in headers.new tickets.new) }
 {
-    match response_header::judge::judge(r, max_data) {
-        Judgement::Refused(f) => Sent::Refused(f),
-        Judgement::Fits => {
-            if !due {
-                return Sent::Refused(Refusal::Field);
-            }
-            let n = Numbers {
-                stat_sn: l.next,
-                exp_cmd_sn: exp_cmd_sn,
-                max_cmd_sn: max_cmd_sn,
-            };
-            let o = response_fields::own_fields(r);
-            if !is_status(r) {
-                response_writer::place(out, 0, o, n);
-                return Sent::NotStored(l.next);
-            }
-            if STATUSES <= l.held {
-                return Sent::Refused(Refusal::Full);
-            }
-            response_writer::place(out, 0, o, n);
-            let after = keep(l, c, ticket, o, n, headers, tickets);
-            Sent::Stored {
-                stat_sn: l.next,
-                ledger: after,
-            }
-        }
+    judge(r, max_data)?;
+    if !due {
+        return Err(Refusal::Field);
     }
+    let stat_sn = l.next;
+    let n = Numbers {
+        stat_sn,
+        exp_cmd_sn,
+        max_cmd_sn,
+    };
+    let o = response_fields::own_fields(r);
+    if !is_status(r) {
+        response_writer::place(out, 0, o, n);
+        return Ok(Sent::NotStored(stat_sn));
+    }
+    if STATUSES <= l.held {
+        return Err(Refusal::Full);
+    }
+    response_writer::place(out, 0, o, n);
+    let ledger = keep(l, c, ticket, o, n, headers, tickets);
+    Ok(Sent::Stored { stat_sn, ledger })
 }

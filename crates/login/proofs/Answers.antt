@@ -1,8 +1,10 @@
 -- The code's step is the step of the rules: a judged block, a request, and what a PDU is to a login.
+use Rattle.std.specs.Prelude as Std
+use Rattle.std.specs.Prelude.{Ok, Err}
 use mathlib.Core.Path.{◌≡◌, refl, sym, ap, ◌∙◌, subst}
 use mathlib.Core.Bool.{Bool, true, false, not, ◌&&◌, ◌||◌}
 use borrow.Author.Tests.{ltb-false, eq-eqb, ne_eqb}
-use mathlib.Core.List.{List, [], ◌∷◌, ◌++◌}
+use mathlib.Core.List.{List, ◌++◌}
 use Prim.Native.Nat.{ℕ, ◌+◌, ◌-◌}
 use native.Mathlib.Omega.{arith}
 use native.Mathlib.Nat.{add-sub_cancel_left}
@@ -12,7 +14,6 @@ use Rattle.key_table.specs.declared.parameters.Settled.{Settled}
 use Rattle.login_book.specs.Keys.{Keys, named}
 use Rattle.login_book.specs.Book.{LoginBook}
 use Rattle.login_types.specs.Agree.{keys_of, book_of, answer_of, Answers}
-use Rattle.login_types.specs.declared.state.Answer.TheVariants as W
 use Rattle.login_book.specs.Login.{start_text, joined, with_gather, fail, fail_text, finish, text_step, judge_step}
 use Rattle.login_book.specs.Login.{Outcome, Texted, accept, refuse, request_step, kind_step, login_step}
 use Rattle.login_text.specs.Promises.{with_names, block_result, text_of}
@@ -23,11 +24,8 @@ use Rattle.login_book.specs.Block.{judge, Result, stopped, went}
 use Rattle.login_block.specs.Promises.{result_of}
 use Rattle.login_types.specs.declared.state.State.{State}
 use Rattle.login_types.specs.declared.state.Step.{Step}
-use Rattle.login_block.specs.declared.block.Verdict.{Verdict}
-use Rattle.login_block.specs.declared.block.Verdict.TheVariants as D
 use Rattle.login_block.specs.declared.block.Judged.{Judged}
 use Rattle.login.specs.declared.request.Found.{Found}
-use Rattle.login.specs.declared.request.Found.TheVariants as N
 use Rattle.text_block.specs.Block.{formed, pairs}
 use Rattle.text.specs.Text.{pick}
 use Rattle.text.proofs.Laws.{past, here, false-true}
@@ -41,7 +39,6 @@ use Rattle.request_header.specs.declared.Pdu.{Pdu}
 use Rattle.request_header.specs.declared.Request.{Request}
 use Rattle.request_header.specs.declared.Request.TheVariants as R
 use Rattle.request_header.specs.declared.Limits.{Limits}
-use Rattle.request_header.specs.declared.ReadAnswer.TheVariants as G
 use lib.Dec.{eqb, ltb}
 use Rattle.login_book.proofs.Reading.{reading}
 
@@ -79,11 +76,11 @@ area-step : (l : LoginBook) (q : Login) (new : ℕ) (ours d g t : List ℕ) (b :
 area-step l q new ours d g t true = refl
 area-step l q new ours d g t false = refl
 
-step-go : (l : State) (q : Login) (new : ℕ) (s : Settled) (v : Verdict) (t t' g h : List ℕ) → t' ≡ text_of (result_of v (keys_of s) t') t
+step-go : (l : State) (q : Login) (new : ℕ) (s : Settled) (v : Std.Result ℕ ℕ) (t t' g h : List ℕ) → t' ≡ text_of (result_of v (keys_of s) t') t
     → ◌≡◌ {A = Outcome} (outcome_of (finish_step l q new s v) (area_of (result_of v (keys_of s) t') g h) t')
     (with_gather g h (result_step (book_of l) q new t (result_of v (keys_of s) t')))
-step-go l q new s (D.Refused x) t t' g h e = rw (← e)
-step-go l q new s (D.Answered n) t t' g h e = rw (← e)
+step-go l q new s (Err x) t t' g h e = rw (← e)
+step-go l q new s (Ok n) t t' g h e = rw (← e)
 
 -- a judged block, answered, is the step of the rules
 judged-is : (l : State) (q : Login) (new : ℕ) (ours d : List ℕ) (j : Judged) (g t g' t' : List ℕ)
@@ -110,11 +107,11 @@ module _ (l : State) (r : Step) (g t : List ℕ) (o : Outcome) where
   pub gather-answers : (q : Login) (n : ℕ) → r ≡ gathered_step l q n → outcome_of (gathered_step l q n) g t ≡ o → Answers l r g t o
   gather-answers q n e f = subst (λ (x : Step). Answers l x g t o) (sym e) (record { outcome = f; stays = tt })
 
-  finish-answers : (q : Login) (new : ℕ) (s : Settled) (v : Verdict) → outcome_of (finish_step l q new s v) g t ≡ o → Answers l (finish_step l q new s v) g t o
-  finish-answers q new s (D.Refused x) f = record { outcome = f; stays = refl }
-  finish-answers q new s (D.Answered n) f = record { outcome = f; stays = tt }
+  finish-answers : (q : Login) (new : ℕ) (s : Settled) (v : Std.Result ℕ ℕ) → outcome_of (finish_step l q new s v) g t ≡ o → Answers l (finish_step l q new s v) g t o
+  finish-answers q new s (Err x) f = record { outcome = f; stays = refl }
+  finish-answers q new s (Ok n) f = record { outcome = f; stays = tt }
 
-  judge-answers : (q : Login) (new : ℕ) (s : Settled) (v : Verdict) → r ≡ finish_step l q new s v → outcome_of (finish_step l q new s v) g t ≡ o
+  judge-answers : (q : Login) (new : ℕ) (s : Settled) (v : Std.Result ℕ ℕ) → r ≡ finish_step l q new s v → outcome_of (finish_step l q new s v) g t ≡ o
       → Answers l r g t o
   judge-answers q new s v e f = subst (λ (x : Step). Answers l x g t o) (sym e) (finish-answers q new s v f)
 
@@ -137,7 +134,7 @@ status-go m s F.Full e = refl
 status-go m s F.Stale e = refl
 status-go m s F.Snack e = refl
 
-pub reading-status : (m : Limits) (s : List ℕ) (f : Refusal) → Read.answer_of (G.Refused f) ≡ read_pdu m s → status f ≡ 0
+pub reading-status : (m : Limits) (s : List ℕ) (f : Refusal) → Read.answer_of (Err f) ≡ read_pdu m s → status f ≡ 0
 reading-status m s f e = status-go m s f (sym e)
 
 -- FIELD for a PDU that is no Login, and for a new handle 0.
@@ -163,7 +160,7 @@ module _ (l : LoginBook) (d : List ℕ) (live new : ℕ) (ours g t : List ℕ) w
 
 -- What a PDU is to a login: one that was read, and one that was not.
 module _ (new : ℕ) (pdu : List ℕ) where
-  pub read-refused : (f : Refusal) → Read.answer_of (G.Refused f) ≡ read_pdu limits pdu → ReadAs new pdu (N.Refused f)
+  pub read-refused : (f : Refusal) → Read.answer_of (Err f) ≡ read_pdu limits pdu → ReadAs new pdu (Err f)
   read-refused f e = record {
     other = ne_eqb (number f) 6 (λ z. reading limits pdu (sym e ∙ ap Read.refused z));
     step = λ l live ours g t. rw (← e, reading-status limits pdu f e);
@@ -171,8 +168,8 @@ module _ (new : ℕ) (pdu : List ℕ) where
     lent = λ q. false-true q;
   }
 
-  module _ (p : Pdu) (e : Read.answer_of (G.Got p) ≡ read_pdu limits pdu) where
-    pub read-zero : new ≡ 0 → ReadAs new pdu (N.Refused F.Field)
+  module _ (p : Pdu) (e : Read.answer_of (Ok p) ≡ read_pdu limits pdu) where
+    pub read-zero : new ≡ 0 → ReadAs new pdu (Err F.Field)
     read-zero z = record {
       other = refl;
       step = λ l live ours g t. rw (← e) (kind-zero l (data_of pdu p) live new ours g t p.request z);
@@ -180,7 +177,7 @@ module _ (new : ℕ) (pdu : List ℕ) where
       lent = λ q. false-true q;
     }
 
-    pub read-other : ((q : Login) → p.request ≡ R.Login q → ⊥) → ReadAs new pdu (N.Refused F.Field)
+    pub read-other : ((q : Login) → p.request ≡ R.Login q → ⊥) → ReadAs new pdu (Err F.Field)
     read-other k = record {
       other = refl;
       step = λ l live ours g t. rw (← e) (kind-none l (data_of pdu p) live new ours g t p.request k);
@@ -188,7 +185,7 @@ module _ (new : ℕ) (pdu : List ℕ) where
       lent = λ q. false-true q;
     }
 
-    pub read-got : (q : Login) → p.request ≡ R.Login q → (new ≡ 0 → ⊥) → ReadAs new pdu (N.Login q p.data_start p.data_segment_length)
+    pub read-got : (q : Login) → p.request ≡ R.Login q → (new ≡ 0 → ⊥) → ReadAs new pdu (Ok (record { login = q; start = p.data_start; length = p.data_segment_length }))
     unfolding data_of
     read-got q f z = record {
       other = refl;
@@ -208,7 +205,7 @@ module _ (over : Bool) (new gather text : ℕ) (pdu : List ℕ) where
   large true b e = false-true (sym e)
   large false b e = (refl, e)
 
-  pub found-small : (ltb gather 8192 || ltb text 8192) ≡ true → FoundAs over new gather text pdu (N.Refused F.Buffer)
+  pub found-small : (ltb gather 8192 || ltb text 8192) ≡ true → FoundAs over new gather text pdu (Err F.Buffer)
   unfolding login_step
   found-small a = record {
     other = refl;
@@ -223,7 +220,7 @@ module _ (over : Bool) (new gather text : ℕ) (pdu : List ℕ) where
         let b = large (ltb gather 8192) (ltb text 8192) a in
         sym (past _ _ _ _ (ap (λ (k : ℕ). ltb k 8192) m ∙ b.0) (past _ _ _ _ (ap (λ (k : ℕ). ltb k 8192) n ∙ b.1) (sym e)))
 
-    pub found-closed : over ≡ true → FoundAs over new gather text pdu (N.Refused F.Closed)
+    pub found-closed : over ≡ true → FoundAs over new gather text pdu (Err F.Closed)
     unfolding login_step
     found-closed c = record {
       other = refl;
@@ -232,7 +229,7 @@ module _ (over : Bool) (new gather text : ℕ) (pdu : List ℕ) where
       lent = λ q. false-true q;
     }
 
-    pub found-read : over ≡ false → (f : Found) → ReadAs new pdu f → FoundAs over new gather text pdu f
+    pub found-read : over ≡ false → (f : Std.Result Found Refusal) → ReadAs new pdu f → FoundAs over new gather text pdu f
     unfolding login_step
     found-read c f r = record {
       other = r.other;
@@ -242,19 +239,19 @@ module _ (over : Bool) (new gather text : ℕ) (pdu : List ℕ) where
     }
 
 -- What is done with what was found is the step of the rules.
-module _ (l : State) (pdu : List ℕ) (live new : ℕ) (ours g t : List ℕ) (f : Found) (x : FoundAs l.over new (length g) (length t) pdu f) where
-  found-step : (h : Found) → f ≡ h → found_step h (book_of l) pdu live new ours g t ≡ login_step (book_of l) pdu live new ours g t
-  found-step h e = ap (λ (y : Found). found_step y (book_of l) pdu live new ours g t) (sym e) ∙ x.step (book_of l) live ours g t refl refl refl
+module _ (l : State) (pdu : List ℕ) (live new : ℕ) (ours g t : List ℕ) (f : Std.Result Found Refusal) (x : FoundAs l.over new (length g) (length t) pdu f) where
+  found-step : (h : Std.Result Found Refusal) → f ≡ h → found_step h (book_of l) pdu live new ours g t ≡ login_step (book_of l) pdu live new ours g t
+  found-step h e = ap (λ (y : Std.Result Found Refusal). found_step y (book_of l) pdu live new ours g t) (sym e) ∙ x.step (book_of l) live ours g t refl refl refl
 
-  pub found-refused : (why : Refusal) → f ≡ N.Refused why
-      → Answers l (record { state = l; answer = W.Refused why }) g t (login_step (book_of l) pdu live new ours g t)
-  found-refused why e = record { outcome = found-step (N.Refused why) e; stays = sym (past _ _ _ _ (ap is_six (sym e) ∙ x.other) refl) }
+  pub found-refused : (why : Refusal) → f ≡ Err why
+      → Answers l (record { state = l; answer = Err why }) g t (login_step (book_of l) pdu live new ours g t)
+  found-refused why e = record { outcome = found-step (Err why) e; stays = sym (past _ _ _ _ (ap is_six (sym e) ∙ x.other) refl) }
 
-  pub found-login : (q : Login) (a n : ℕ) (r : Step) (g' t' : List ℕ) → f ≡ N.Login q a n
-      → Answers l r g' t' (request_step (book_of l) q (take (a + n - a) (drop a pdu)) live new ours g t)
+  pub found-login : (y : Found) (r : Step) (g' t' : List ℕ) → f ≡ Ok y
+      → Answers l r g' t' (request_step (book_of l) y.login (take (y.start + y.length - y.start) (drop y.start pdu)) live new ours g t)
       → Answers l r g' t' (login_step (book_of l) pdu live new ours g t)
-  found-login q a n r g' t' e w = record {
-    outcome = w.outcome ∙ ap (λ (k : ℕ). request_step (book_of l) q (take k (drop a pdu)) live new ours g t) (add-sub_cancel_left a n)
-        ∙ found-step (N.Login q a n) e;
+  found-login y r g' t' e w = record {
+    outcome = w.outcome ∙ ap (λ (k : ℕ). request_step (book_of l) y.login (take k (drop y.start pdu)) live new ours g t) (add-sub_cancel_left y.start y.length)
+        ∙ found-step (Ok y) e;
     stays = w.stays;
   }

@@ -8,9 +8,9 @@ use login_answer::answer::{end, finish};
 use login_answer::checks::{MAX_TEXT, status_of};
 use login_answer::gathered::gathered_step;
 use login_gather::gather::judge_request;
-use login_types::state::{Answer, State, Step};
+use login_types::state::{State, Step};
 use refusal::Refusal;
-use request_header::{LIMITS, Login, ReadAnswer, Request};
+use request_header::{LIMITS, Login, Request};
 use request_pdu::read;
 use text::slice::append;
 
@@ -28,60 +28,62 @@ fn request_step(
     requires { (8192 ≤ length gather.old) × (8192 ≤ length text.old) × (new ≡ 0 → ⊥) }
     ensures { Answers l result gather.new text.new (request_step (book_of l) q piece.now live new ours.now gather.old text.old) }
 {
-    let s = status_of(l, q, piece.len(), live);
-    if s != 0 {
-        return end(l, s);
+    if let Err(status) = status_of(l, q, piece.len(), live) {
+        return end(l, status);
     }
+    let at = l.gathered as usize;
     if q.continues {
-        let at = l.gathered as usize;
         let n = append(gather, at, piece);
         return gathered_step(l, q, n);
     }
-    let t = l.settled;
-    let at = l.gathered as usize;
     let leading = q.tsih == 0;
-    let j = judge_request(t, l.judged, q.csg, leading, ours, at, piece, gather, text);
+    let j = judge_request(
+        l.settled, l.judged, q.csg, leading, ours, at, piece, gather, text,
+    );
     finish(l, q, new, j)
 }
 
-// What a PDU is to a login: a Login and where its data lies, or a refusal.
+// A Login, and where its data lies in the PDU.
 #[derive(Clone, Copy)]
-enum Found {
-    Login(Login, usize, usize),
-    Refused(Refusal),
+struct Found {
+    login: Login,
+    start: usize,
+    length: usize,
 }
 
 // The Login that a PDU is read as: FIELD where it is none.
-fn read_login(pdu: &[u8], new: u16) -> Found
+fn read_login(pdu: &[u8], new: u16) -> Result<Found, Refusal>
     ensures { ReadAs new pdu.now result }
 {
-    let answer = read(pdu, LIMITS);
-    match answer {
-        ReadAnswer::Refused(why) => {
-            return Found::Refused(why);
-        }
-        ReadAnswer::Got(p) => {
-            if new == 0 {
-                return Found::Refused(Refusal::Field);
-            }
-            let r = p.request;
-            if let Request::Login(q) = r {
-                return Found::Login(q, p.data_start, p.data_segment_length);
-            }
-            return Found::Refused(Refusal::Field);
-        }
+    let p = read(pdu, LIMITS)?;
+    if new == 0 {
+        return Err(Refusal::Field);
     }
+    if let Request::Login(login) = p.request {
+        return Ok(Found {
+            login,
+            start: p.data_start,
+            length: p.data_segment_length,
+        });
+    }
+    Err(Refusal::Field)
 }
 
 // The refusals before a request is looked at: areas of these lengths, and a login that is over or not.
-fn find_login(over: bool, new: u16, gather: usize, text: usize, pdu: &[u8]) -> Found
+fn find_login(
+    over: bool,
+    new: u16,
+    gather: usize,
+    text: usize,
+    pdu: &[u8],
+) -> Result<Found, Refusal>
     ensures { FoundAs over new gather text pdu.now result }
 {
     if (gather < MAX_TEXT) | (text < MAX_TEXT) {
-        return Found::Refused(Refusal::Buffer);
+        return Err(Refusal::Buffer);
     }
     if over {
-        return Found::Refused(Refusal::Closed);
+        return Err(Refusal::Closed);
     }
     read_login(pdu, new)
 }
@@ -99,17 +101,23 @@ pub fn login_request(
 ) -> Step
     ensures { Answers l result gather.new text.new (login_step (book_of l) pdu.now live new ours.now gather.old text.old) }
 {
-    let f = find_login(l.over, new, gather.len(), text.len(), pdu);
-    match f {
-        Found::Refused(why) => {
-            return Step {
-                state: l,
-                answer: Answer::Refused(why),
-            };
-        }
-        Found::Login(q, start, len) => {
-            let end = start + len;
-            return request_step(l, q, &pdu[start..end], live, new, ours, gather, text);
+    match find_login(l.over, new, gather.len(), text.len(), pdu) {
+        Err(why) => Step {
+            state: l,
+            answer: Err(why),
+        },
+        Ok(f) => {
+            let end = f.start + f.length;
+            request_step(
+                l,
+                f.login,
+                &pdu[f.start..end],
+                live,
+                new,
+                ours,
+                gather,
+                text,
+            )
         }
     }
 }

@@ -32,20 +32,20 @@ unfolding permitted
 phase-go true s i t c q u v = ap (λ (m : Bool). (m || u) || v) (or-false ((differs (begun s i t c) q || (q.continues && q.transit)) || not (eqb q.csg s)))
 phase-go false s i t c q u v = ap (λ (m : Bool). ((m || not (eqb q.csg 0 || eqb q.csg 1)) || u) || v) (or-false (q.continues && q.transit))
 
-pub status-version : (l : State) (q : Login) (n live : ℕ) → ltb 0 q.version_min ≡ true → 0x0205 ≡ status_of (book_of l) q n live
+pub status-version : (l : State) (q : Login) (n live : ℕ) → ltb 0 q.version_min ≡ true → status_of (book_of l) q n live ≡ 0x0205
 unfolding status_of
-status-version l q n live a = sym (here _ _ _ a)
+status-version l q n live a = here _ _ _ a
 
 module _ (l : State) (q : Login) (n live : ℕ) (a : ltb 0 q.version_min ≡ false) where
-  pub status-handle : (not (eqb q.tsih 0) && not (eqb q.tsih live)) ≡ true → 0x020a ≡ status_of (book_of l) q n live
+  pub status-handle : (not (eqb q.tsih 0) && not (eqb q.tsih live)) ≡ true → status_of (book_of l) q n live ≡ 0x020a
   unfolding status_of
-  status-handle b = sym (past _ _ _ _ a (here _ _ _ b))
+  status-handle b = past _ _ _ _ a (here _ _ _ b)
 
   module _ (b : (not (eqb q.tsih 0) && not (eqb q.tsih live)) ≡ false) where
-    pub status-later : (x : ℕ) → pick (later_broken l q n) 0x0200 0 ≡ x → x ≡ status_of (book_of l) q n live
+    pub status-later : status_of (book_of l) q n live ≡ pick (later_broken l q n) 0x0200 0
     unfolding status_of
-    status-later x e =
+    status-later =
         let u = q.transit && not (permitted (in_stage q.csg) q.nsg) in
         let v = ltb 8192 (l.gathered + n) in
-        sym (past _ _ _ _ a (past _ _ _ _ b (any_of (differs (phase_of l) q) (q.continues && q.transit) (strays (phase_of l) q) u v 0x0200 0
-        ∙ ap (λ (m : Bool). pick m 0x0200 0) (sym (phase-go l.begun l.stage l.isid l.tsih l.cid q u v)) ∙ e)))
+        past _ _ _ _ a (past _ _ _ _ b (any_of (differs (phase_of l) q) (q.continues && q.transit) (strays (phase_of l) q) u v 0x0200 0
+        ∙ ap (λ (m : Bool). pick m 0x0200 0) (sym (phase-go l.begun l.stage l.isid l.tsih l.cid q u v))))

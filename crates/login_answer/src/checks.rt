@@ -2,6 +2,7 @@
 ghost use Rattle.std.specs.Prelude.{◌≡◌, ◌<◌, ◌^◌};
 ghost use Rattle.login_book.specs.Book.{in_stage, permitted, begun};
 ghost use Rattle.login_book.specs.Login.{differs, status_of};
+ghost use Rattle.login_answer.specs.Promises.{Checked};
 ghost use Rattle.login_types.specs.Agree.{book_of};
 
 use login_types::state::State;
@@ -10,22 +11,12 @@ use request_header::Login;
 // The longest text that is gathered.
 pub const MAX_TEXT: usize = 8192;
 
-// The permitted steps: a row of four for each of the stages 0 to 3, y in the column of a stage that may be stepped to.
-const STEPS: [u8; 16] = *b"-y-y---y--------";
-
+// The permitted steps from a stage: 0 to 1 or 3, and 1 to 3.
+#[tactic(auto, unfolding(login_book::specs::Book::permitted))]
 fn step_permitted(from: u8, to: u8) -> bool
     ensures { result ≡ permitted (in_stage from) to }
 {
-    if from < 4 {
-        if to < 4 {
-            let i = from as usize * 4 + to as usize;
-            STEPS[i] == b'y'
-        } else {
-            false
-        }
-    } else {
-        false
-    }
+    matches!((from, to), (0, 1 | 3) | (1, 3))
 }
 
 // ISID, TSIH or CID differ from those of the first request.
@@ -35,25 +26,25 @@ fn is_other(l: State, q: Login) -> bool
     (q.isid != l.isid) | (q.tsih != l.tsih) | (q.cid != l.cid)
 }
 
-// The status of the first broken rule, 0 if none is broken; n is the length of the request's data.
-pub fn status_of(l: State, q: Login, n: usize, live: u16) -> u16
+// The status of the first broken rule, if one is broken; n is the length of the request's data.
+pub fn status_of(l: State, q: Login, n: usize, live: u16) -> Result<(), u16>
     requires { n < 2 ^ 63 }
-    ensures { result ≡ status_of (book_of l) q n live }
+    ensures { Checked (status_of (book_of l) q n live) result }
 {
     if 0 < q.version_min {
-        return 0x0205;
+        return Err(0x0205);
     }
     if (q.tsih != 0) & (q.tsih != live) {
-        return 0x020a;
+        return Err(0x020a);
     }
-    let mut broken = l.begun & is_other(l, q);
-    broken = broken | (q.continues & q.transit);
-    broken = broken | (l.begun & (q.csg != l.stage));
-    broken = broken | (!l.begun & !((q.csg == 0) | (q.csg == 1)));
-    broken = broken | (q.transit & !step_permitted(q.csg, q.nsg));
-    broken = broken | (MAX_TEXT < l.gathered as usize + n);
+    let broken = (l.begun & is_other(l, q))
+        | (q.continues & q.transit)
+        | (l.begun & (q.csg != l.stage))
+        | (!l.begun & !((q.csg == 0) | (q.csg == 1)))
+        | (q.transit & !step_permitted(q.csg, q.nsg))
+        | (MAX_TEXT < l.gathered as usize + n);
     if broken {
-        return 0x0200;
+        return Err(0x0200);
     }
-    0
+    Ok(())
 }

@@ -2,7 +2,7 @@
 ghost use Rattle.std.specs.Prelude.{◌≡◌, ◌≤◌};
 ghost use Rattle.login_answer.specs.Promises.{gathered_step};
 
-use login_types::state::{Accepted, Answer, State, Step};
+use login_types::state::{Accepted, State, Step};
 use request_header::Login;
 
 // With C set n bytes are gathered now, and the answer is empty.
@@ -10,28 +10,24 @@ pub fn gathered_step(l: State, q: Login, n: usize) -> Step
     requires { n ≤ 8192 }
     ensures { result ≡ gathered_step l q n }
 {
-    let s = l.settled;
-    let m = State {
-        over: false,
-        begun: true,
-        judged: l.judged,
-        stage: q.csg,
-        isid: q.isid,
-        tsih: q.tsih,
-        cid: q.cid,
-        gathered: n as u16,
-        settled: s,
-    };
-    let a = Accepted {
-        stage: q.csg,
-        transit: false,
-        csg: q.csg,
-        nsg: 0,
-        tsih: q.tsih,
-        length: 0,
-    };
     Step {
-        state: m,
-        answer: Answer::Accepted(a),
+        state: State {
+            over: false,
+            begun: true,
+            stage: q.csg,
+            isid: q.isid,
+            tsih: q.tsih,
+            cid: q.cid,
+            gathered: n as u16,
+            ..l
+        },
+        answer: Ok(Accepted {
+            stage: q.csg,
+            transit: false,
+            csg: q.csg,
+            nsg: 0,
+            tsih: q.tsih,
+            length: 0,
+        }),
     }
 }

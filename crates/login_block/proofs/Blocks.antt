@@ -1,91 +1,105 @@
--- One turn of the loop that judges the pairs of a block.
-use mathlib.Core.Path.{◌≡◌, refl, sym, ap, ◌∙◌, subst}
-use mathlib.Core.Bool.{Bool, true, false}
-use mathlib.Core.List.{List, [], ◌∷◌, ◌++◌}
-use Prim.Native.Nat.{ℕ, zero, suc, ◌+◌, ◌*◌, ◌-◌, ◌<◌, ◌≤◌}
-use native.Mathlib.Omega.{arith}
-use lib.ListN.{length, take, drop, length-drop, take-append-drop}
+-- One turn of the loop that judges the pairs of a block: of what is left, b.
+use Rattle.std.proofs.Common.{◌≡◌, ℕ, zero, suc, ◌+◌, ◌≤◌, Bool, true, false, List, [], ◌∷◌, ◌++◌, length, take, drop, Ok, Err, refl, sym, ap, ◌∙◌, arith}
+use Rattle.std.proofs.Common.{Result as Answer}
+use native.Mathlib.Nat.{zero-add}
+use mathlib.Core.Path.{subst}
+use lib.ListN.{take-append-drop}
 use lib.Seq.{length-take-le}
+use borrow.Author.Tests.{eqb-true}
 use Rattle.text.specs.Text.{pick, before, has}
-use Rattle.text.proofs.Laws.{drop-end}
-use Rattle.text_block.specs.Block.{name_in, value_in, pairs, good_first, good_name}
-use Rattle.text_block.proofs.Pairs.{rest_at, some, none}
+use Rattle.text_block.specs.Block.{name_in, value_in, rest_of, pairs, formed, good_first, good_name, empty}
+use Rattle.text_block.proofs.Pairs.{rest_at}
 use Rattle.key_replies.specs.Answer.{said_text}
-use Rattle.login_book.specs.Keys.{Keys, after}
 use Rattle.key_values.specs.declared.value.Judgement.{Judgement}
-use Rattle.key_values.specs.declared.value.Judgement.TheVariants as J
-use Rattle.login_book.specs.Block.{onward, judge, judge_first, judge_block, Result, stopped}
-use Rattle.login_block.specs.Promises.{stop_of, Walked, walked, walk, result_of, count_of, JudgedAs}
-use Rattle.login_block.specs.declared.block.Stop.TheVariants.{Goes, Stops}
-use Rattle.login_block.specs.declared.block.Verdict.{Verdict}
+use Rattle.login_book.specs.Keys.{Keys, after}
+use Rattle.login_book.specs.Block.{judge, judge_first, judge_block, Result, stopped}
+use Rattle.login_block.specs.Promises.{first_of, Walked, walked, walk, result_of, count_of, JudgedAs}
 
-pub pairs-step : (s : List ℕ) (k n e : ℕ) → k < length s → e ≡ length (name_in (drop k s)) + 1 + length (value_in (drop k s))
-    → pairs (suc n) (drop k s) ≡ record { name = name_in (drop k s); value = value_in (drop k s) } ∷ pairs n (drop (k + e + 1) s)
+-- what `&b[e + 1..]` is, where the first pair ends at e
+pub rest-is : (b : List ℕ) (e : ℕ) → e ≡ length (name_in b) + 1 + length (value_in b) → drop (e + 1) b ≡ rest_of b
+rest-is b e q = ap (λ (n : ℕ). drop (n + 1) b) (sym (zero-add e)) ∙ rest_at b 0 e q
+
+pairs_step : (b : List ℕ) (n : ℕ) → empty b ≡ false → pairs (suc n) b ≡ record { name = name_in b; value = value_in b } ∷ pairs n (rest_of b)
 unfolding pairs
-pairs-step s k n e h q = rw (some s k h, rest_at s k e q)
+pairs_step b n h = rw h
 
-pub pairs_end : (s : List ℕ) (k n : ℕ) → length s ≤ k → pairs n (drop k s) ≡ []
+-- where nothing is left
+pub pairs_end : (b : List ℕ) (n : ℕ) → empty b ≡ true → pairs n b ≡ []
 unfolding pairs
-pairs_end s k zero h = refl
-pairs_end s k (suc n) h = rw (none s k h)
+pairs_end b zero h = refl
+pairs_end b (suc n) h = rw h
 
--- What the code says of a judgement, and what comes after it.
-onward_stops : (j : Judgement) (st : ℕ) (r : Result) → stop_of j ≡ Stops st → onward j r ≡ stopped st
-onward_stops (J.Refused m) st r e = let z : m ≡ st = cc in ap stopped z
-onward_stops (J.Said x) st r e = absurd (let z : ◌≡◌ {A = ℕ} 0 1 = cc in omega arith)
-onward_stops (J.Settles n x) st r e = absurd (let z : ◌≡◌ {A = ℕ} 0 1 = cc in omega arith)
+pub formed_end : (b : List ℕ) (n : ℕ) → empty b ≡ true → formed n b ≡ true
+unfolding formed
+formed_end b zero h = h
+formed_end b (suc n) h = rw h
 
-onward-goes : (j : Judgement) (r : Result) → stop_of j ≡ Goes → onward j r ≡ r
-onward-goes (J.Refused m) r e = absurd (let z : ◌≡◌ {A = ℕ} 0 1 = cc in omega arith)
-onward-goes (J.Said x) r e = refl
-onward-goes (J.Settles n x) r e = refl
-
-module _ (stage : ℕ) (leading : Bool) (ours : List ℕ) (s : Keys) (t b : List ℕ) (k m e : ℕ) (h : k < length b)
-    (q : e ≡ length (name_in (drop k b)) + 1 + length (value_in (drop k b))) where
-  pub turn-stop : (st : ℕ) → stop_of (judge_first stage leading ours s (drop k b)) ≡ Stops st
-      → judge stage leading ours s t (pairs (suc m) (drop k b)) ≡ stopped st
-  unfolding judge
-  turn-stop st r = rw (pairs-step b k m e h q) (onward_stops (judge_first stage leading ours s (drop k b)) st _ r)
-
-  pub turn_on : stop_of (judge_first stage leading ours s (drop k b)) ≡ Goes
-      → judge stage leading ours s t (pairs (suc m) (drop k b))
-      ≡ judge stage leading ours (after s (name_in (drop k b)) (judge_first stage leading ours s (drop k b)))
-      (t ++ said_text (name_in (drop k b)) (judge_first stage leading ours s (drop k b))) (pairs m (drop (k + e + 1) b))
-  unfolding judge
-  turn_on r = rw (pairs-step b k m e h q) (onward-goes (judge_first stage leading ours s (drop k b)) _ r)
-
-  module _ (g : good_first (drop k b) ≡ true) where
-    pub walk-stop : (st : ℕ) → stop_of (judge_first stage leading ours s (drop k b)) ≡ Stops st
-        → walk (suc m) stage leading ours s t (drop k b)
-        ≡ walked (after s (name_in (drop k b)) (judge_first stage leading ours s (drop k b)))
-        (t ++ said_text (name_in (drop k b)) (judge_first stage leading ours s (drop k b)))
-    unfolding walk
-    walk-stop st r = rw (g, r)
-
-    pub walk-on : stop_of (judge_first stage leading ours s (drop k b)) ≡ Goes
-        → walk (suc m) stage leading ours s t (drop k b)
-        ≡ walk m stage leading ours (after s (name_in (drop k b)) (judge_first stage leading ours s (drop k b)))
-        (t ++ said_text (name_in (drop k b)) (judge_first stage leading ours s (drop k b))) (drop (k + e + 1) b)
-    unfolding walk
-    walk-on r = rw (g, r, rest_at b k e q)
-
--- no pair is walked where none is good, nor at the end of a text
-module _ (stage : ℕ) (leading : Bool) (ours : List ℕ) (s : Keys) (t b : List ℕ) where
-  pub walk-bad : (n : ℕ) → good_first b ≡ false → walk n stage leading ours s t b ≡ walked s t
-  unfolding walk
-  walk-bad zero g = refl
-  walk-bad (suc n) g = rw g
-
-  pub walk_none : (n : ℕ) → n ≡ 0 → walk n stage leading ours s t b ≡ walked s t
-  unfolding walk
-  walk_none n e = rw e
-
-pub end-bad : (s : List ℕ) (k : ℕ) → length s ≤ k → good_first (drop k s) ≡ false
+none_good : (b : List ℕ) → empty b ≡ true → good_first b ≡ false
 unfolding good_first good_name before has
-end-bad s k h = rw (drop-end s k h)
+none_good [] h = refl
+none_good (x ∷ b) h = absurd (let z : length (x ∷ b) ≡ 0 = eqb-true _ 0 h in omega arith)
+
+-- and after 64 pairs something is
+pub formed-long : (b : List ℕ) (n : ℕ) → empty b ≡ false → n ≡ 0 → formed n b ≡ false
+unfolding formed
+formed-long b n h e = rw e h
+
+-- only a pair of a good form is judged
+first-good : (g : Bool) (x : Answer Judgement ℕ) (j : Judgement) → pick g x (Err 0x0200) ≡ Ok j → (g ≡ true) × (x ≡ Ok j)
+first-good true x j e = (refl, e)
+first-good false x j e = cc
+
+-- the status of a refused pair, where the form is good
+stop-status : (g : Bool) (status : ℕ) (r : Result) → r ≡ stopped status → stopped (pick g status 0x0200) ≡ pick g r (stopped 0x0200)
+stop-status true status r e = sym e
+stop-status false status r e = refl
+
+module _ (stage : ℕ) (leading : Bool) (ours : List ℕ) (s : Keys) (t b : List ℕ) where
+  -- after a first pair that is not refused comes the rest
+  module _ (j : Judgement) (f : first_of stage leading ours s b ≡ Ok j) (h : empty b ≡ false) (m : ℕ) {s' : Keys} {t' b' : List ℕ}
+      (p : s' ≡ after s (name_in b) (Ok j)) (q : t' ≡ t ++ said_text (name_in b) (Ok j)) (r : b' ≡ rest_of b) where
+    pub form-on : formed m b' ≡ formed (suc m) b
+    unfolding formed
+    form-on = rw (h, (first-good (good_first b) _ j f).0, r)
+
+    pub judge-on : judge stage leading ours s' t' (pairs m b') ≡ judge stage leading ours s t (pairs (suc m) b)
+    unfolding judge
+    judge-on = rw (p, q, r, pairs_step b m h, (first-good (good_first b) _ j f).1)
+
+    pub walk-on : walk m stage leading ours s' t' b' ≡ walk (suc m) stage leading ours s t b
+    unfolding walk
+    walk-on = rw (p, q, r, f)
+
+  -- a refused one ends the block
+  module _ (status : ℕ) (f : first_of stage leading ours s b ≡ Err status) where
+    pub walk-refused : (n : ℕ) → walk n stage leading ours s t b ≡ walked s t
+    unfolding walk
+    walk-refused zero = refl
+    walk-refused (suc n) = rw f
+
+    module _ (h : empty b ≡ false) (m : ℕ) where
+      refused-go : (g : Bool) → good_first b ≡ g → stopped (pick (formed (suc m) b) status 0x0200) ≡ pick (formed (suc m) b) (judge stage leading ours s t (pairs (suc m) b)) (stopped 0x0200)
+      unfolding judge formed
+      refused-go true g =
+          let j : judge_first stage leading ours s b ≡ Err status = rw g at f in
+          stop-status (formed (suc m) b) status _ (rw (pairs_step b m h, j))
+      refused-go false g = let x : formed (suc m) b ≡ false = rw (h, g) in rw x
+
+      pub status-refused : stopped (pick (formed (suc m) b) status 0x0200) ≡ pick (formed (suc m) b) (judge stage leading ours s t (pairs (suc m) b)) (stopped 0x0200)
+      status-refused = refused-go (good_first b) refl
+
+  -- no pair is walked after 64, nor where nothing is left
+  pub walk-none : (n : ℕ) → n ≡ 0 → walk n stage leading ours s t b ≡ walked s t
+  unfolding walk
+  walk-none n e = rw e
+
+  pub walk-end : (n : ℕ) → empty b ≡ true → walk n stage leading ours s t b ≡ walked s t
+  unfolding walk
+  walk-end zero h = refl
+  walk-end (suc n) h = rw (none_good b h)
 
 -- The contract, by how far the pairs were walked.
-pub judged-as : (stage : ℕ) (leading : Bool) (ours : List ℕ) (s : Keys) (a b old : List ℕ) (v : Verdict) (t : Keys) (new : List ℕ) (count : ℕ)
+pub judged-as : (stage : ℕ) (leading : Bool) (ours : List ℕ) (s : Keys) (a b old : List ℕ) (v : Answer ℕ ℕ) (t : Keys) (new : List ℕ) (count : ℕ)
     → walked t (take count new) ≡ walk 64 stage leading ours s a b → count ≤ length new → drop count new ≡ drop count old
     → result_of v t new ≡ judge_block stage leading ours s a b → count_of v ≤ length new → JudgedAs stage leading ours s a b old v t new
 judged-as stage leading ours s a b old v t new count w h r e f = record {
@@ -95,35 +109,3 @@ judged-as stage leading ours s a b old v t new count w h r e f = record {
   bytes = subst (λ (x : Walked). new ≡ x.text ++ drop (length x.text) old) w
       (sym (take-append-drop count new) ∙ ap (λ (x : List ℕ). take count new ++ x) (r ∙ ap (λ (n : ℕ). drop n old) (sym (length-take-le count new h))));
 }
-
--- the status of a refused pair, where the form is good
-pub stop-status : (b : Bool) (st : ℕ) (r : Result) → stopped st ≡ r → stopped (pick b st 0x0200) ≡ pick b r (stopped 0x0200)
-stop-status true st r e = e
-stop-status false st r e = refl
-
--- The numbers of a turn: n of 64 pairs were judged, the answer of at most 78 bytes a pair fits, and the next pair lies within the block.
-module _ (n : ℕ) (h : n ≤ 64) (m : n ≡ 64 → ⊥) where
-  pub turns-left : 64 - n ≡ suc (64 - (n + 1))
-  turns-left = omega arith
-
-  pub turn-counted : n + 1 ≤ 64
-  turn-counted = omega arith
-
-  pub turn-room : (start count old new : ℕ) → start + 4992 ≤ old → new ≡ old → count ≤ start + 78 * n → count + 78 ≤ new
-  turn-room start count old new r e c = omega arith
-
-pub turn-short : (start count new n : ℕ) → new ≤ count + 78 → count ≤ start + 78 * n → new ≤ start + 78 * (n + 1)
-turn-short start count new n p q = omega arith
-
-pub turn-within : (s : List ℕ) (k e : ℕ) → e < length (drop k s) → k + e < length s
-turn-within s k e h = omega (arith, length-drop k s)
-
-module _ (k e m : ℕ) (h : k + e < m) where
-  pub turn-next : k + e + 1 ≤ m
-  turn-next = omega arith
-
-  pub turn-less : m - (k + e + 1) < m - k
-  turn-less = omega arith
-
-pub all_short : (start count old new n : ℕ) → n ≤ 64 → start + 4992 ≤ old → new ≡ old → count ≤ start + 78 * n → count ≤ new
-all_short start count old new n h r e c = omega arith

@@ -3,7 +3,7 @@ ghost use Rattle.std.specs.Prelude.{◌≡◌, ◌+◌, ◌≤◌, length, take}
 ghost use Rattle.text.specs.Text.{pick};
 ghost use Rattle.text_block.specs.Block.{formed};
 ghost use Rattle.keys.specs.Promises.{settled_of};
-ghost use Rattle.login_block.specs.Promises.{stop_of, PairOf, FirstOf, JudgedAs};
+ghost use Rattle.login_block.specs.Promises.{PairOf, FirstOf, JudgedAs};
 ghost use Rattle.login_types.specs.Agree.{keys_of};
 
 use key_lookup::key_of;
@@ -11,74 +11,39 @@ use key_replies::answer::put_said;
 use key_settled::settle_pair;
 use key_table::parameters::Settled;
 use key_table::table::KNOWN;
-use key_values::value::Judgement;
 use keys::judge::judge_pair;
-use text_block::block::{MAX_PAIRS, cut_pair, name_good, well_formed};
+use text_block::block::{MAX_PAIRS, Span, cut_pair, name_good, well_formed};
 
-// Whether a judgement refuses.
-#[derive(Clone, Copy)]
-enum Stop {
-    Goes,
-    Stops(u16),
-}
-
-fn stop_of(j: Judgement) -> Stop
-    ensures { result ≡ stop_of j }
-{
-    match j {
-        Judgement::Refused(status) => Stop::Stops(status),
-        Judgement::Said(_) => Stop::Goes,
-        Judgement::Settles(_, _) => Stop::Goes,
-    }
-}
-
-// The first pair of what is left: whether its form is good, its key, and where its name and its value end.
+// A first pair of a good form: its key, and where its name and its value end.
 #[derive(Clone, Copy)]
 struct Pair {
-    ok: bool,
     key: usize,
     eq: usize,
     end: usize,
 }
 
-// A known key's name has a good form, so only another name is looked at byte by byte.
-fn pair_in(rest: &[u8]) -> Pair
+// The first pair of what is left, if its form is good. A known key's name has a good form, so only another name is looked at byte by byte.
+fn pair_in(rest: &[u8]) -> Option<Pair>
     ensures { PairOf rest.now result }
 {
-    let p = cut_pair(rest);
-    let eq = p.eq;
-    let end = p.end;
-    if !p.ok {
-        return Pair {
-            ok: false,
-            key: KNOWN,
-            eq,
-            end,
-        };
-    }
+    let Span { eq, end } = cut_pair(rest)?;
     let name = &rest[..eq];
     let key = key_of(name);
-    if key < KNOWN {
-        return Pair {
-            ok: true,
-            key,
-            eq,
-            end,
-        };
+    if key < KNOWN || name_good(name) {
+        Some(Pair { key, eq, end })
+    } else {
+        None
     }
-    let ok = name_good(name);
-    Pair { ok, key, eq, end }
 }
 
-// The first pair of what is left, judged and answered: whether its form is good, the count of answered bytes, and its end.
+// A judged and answered first pair: the count of answered bytes, and where the pair ends.
 #[derive(Clone, Copy)]
 struct First {
-    ok: bool,
-    stop: Stop,
     count: usize,
     end: usize,
 }
 
+// The first pair of what is left, judged and answered. The status of one whose form is not good, or that is refused, which leaves all as it was.
 fn judge_first(
     seen: &mut [bool; 28],
     values: &mut [u32],
@@ -88,45 +53,25 @@ fn judge_first(
     rest: &[u8],
     out: &mut [u8],
     at: usize,
-) -> First
+) -> Result<First, u16>
     requires { (at + 78 ≤ length out.old) × (length values.old ≡ 12) × (length seen.old ≡ 28) }
     ensures { (length seen.new ≡ 28) × FirstOf (keys_of (settled_of seen.old values.old)) stage leading ours.now rest.now out.old at result (keys_of (settled_of seen.new values.new)) out.new }
 {
-    let p = pair_in(rest);
-    let eq = p.eq;
-    let end = p.end;
-    if !p.ok {
-        return First {
-            ok: false,
-            stop: Stop::Goes,
-            count: at,
-            end,
-        };
-    }
-    let k = p.key;
-    let j = judge_pair(seen, stage, leading, ours, k, &rest[eq + 1..end]);
-    settle_pair(seen, values, k, j);
-    let count = put_said(out, at, &rest[..eq + 1], j);
-    let stop = stop_of(j);
-    First {
-        ok: true,
-        stop,
-        count,
-        end,
-    }
+    let Some(p) = pair_in(rest) else {
+        return Err(0x0200);
+    };
+    let Pair { key, eq, end } = p;
+    let j = judge_pair(seen, stage, leading, ours, key, &rest[eq + 1..end])?;
+    settle_pair(seen, values, key, Ok(j));
+    let count = put_said(out, at, &rest[..eq + 1], Ok(j));
+    Ok(First { count, end })
 }
 
-// A judged block: refused, or answered by the first bytes of the output.
-#[derive(Clone, Copy)]
-pub enum Verdict {
-    Refused(u16),
-    Answered(usize),
-}
-
+// A judged block: what is settled after it, and the status that refuses it or how many bytes of the output answer it.
 #[derive(Clone, Copy)]
 pub struct Judged {
     pub settled: Settled,
-    pub verdict: Verdict,
+    pub verdict: Result<usize, u16>,
 }
 
 // The status of a block with a refused pair: a breach of its form anywhere comes first.
@@ -147,32 +92,28 @@ pub fn judge_block(
     block: &[u8],
     out: &mut [u8],
     start: usize,
-) -> Verdict
+) -> Result<usize, u16>
     requires { (start + 4992 ≤ length out.old) × (length values.old ≡ 12) × (length seen.old ≡ 28) }
     ensures { JudgedAs stage leading ours.now (keys_of (settled_of seen.old values.old)) (take start out.old) block.now out.old result (keys_of (settled_of seen.new values.new)) out.new }
 {
     let mut count = start;
-    let mut at = 0;
-    let mut n: usize = 0;
-    while at < block.len() {
-        if n == MAX_PAIRS {
-            return Verdict::Refused(0x0200);
+    let mut rest = block;
+    let mut left = MAX_PAIRS;
+    // Over what is left and not over a count: a for would end at 64 pairs, and those after them are refused.
+    while !rest.is_empty() {
+        if left == 0 {
+            return Err(0x0200);
         }
-        let f = judge_first(seen, values, stage, leading, ours, &block[at..], out, count);
-        if !f.ok {
-            return Verdict::Refused(0x0200);
-        }
-        let stop = f.stop;
-        match stop {
-            Stop::Stops(status) => {
-                return Verdict::Refused(pair_status(block, status));
-            }
-            Stop::Goes => {
+        match judge_first(seen, values, stage, leading, ours, rest, out, count) {
+            Ok(f) => {
                 count = f.count;
-                at = at + f.end + 1;
-                n += 1;
+                rest = &rest[f.end + 1..];
+                left -= 1;
+            }
+            Err(status) => {
+                return Err(pair_status(block, status));
             }
         }
     }
-    Verdict::Answered(count)
+    Ok(count)
 }

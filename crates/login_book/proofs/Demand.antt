@@ -1,5 +1,6 @@
 -- Demand 2 of the events of a list of requests. The invariant is that the login left is the one that the list says (`left_by`), with what the list
 -- says of its stage and keys (`Good`); it goes by induction on the list, the parts of one request being those of Promised.
+use Rattle.std.specs.Prelude.{Ok}
 use mathlib.Core.Path.{◌≡◌, refl, sym, ap, ◌∙◌, subst}
 use mathlib.Core.Bool.{Bool, true, false, not, ◌&&◌, ◌||◌}
 use mathlib.Core.List.{List, [], ◌∷◌, ◌++◌, Memᴰ}
@@ -164,7 +165,7 @@ good_start = record { stage = refl; going = λ _. refl; values = λ n h. refl; c
 
 value-append : (n : List ℕ) (x : ℕ) (ps qs : List Pair) → value_after n x (ps ++ qs) ≡ value_after n (value_after n x ps) qs
 value-append n x [] qs = refl
-value-append n x (p ∷ ps) qs = value-append n (pick (same n p.name) (taken x (settling (row_at (key_of n)) p.value)) x) ps qs
+value-append n x (p ∷ ps) qs = value-append n (pick (same n p.name) (taken x (Ok (settling (row_at (key_of n)) p.value))) x) ps qs
 
 or_assoc : (a b c : Bool) → ((a || b) || c) ≡ (a || (b || c))
 or_assoc true b c = refl

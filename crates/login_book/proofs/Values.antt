@@ -1,5 +1,7 @@
 -- Pairs judged one after another: where judging goes on and where it stops; a key's value in force changes by that key's own offers alone, and a
 -- known key came where it was offered; how long the answer can be.
+use Rattle.std.specs.Prelude as Std
+use Rattle.std.specs.Prelude.{Ok, Err}
 use mathlib.Core.Path.{◌≡◌, refl, sym, ap, ◌∙◌}
 use mathlib.Core.Bool.{Bool, true, false, not, ◌&&◌, ◌||◌}
 use mathlib.Core.List.{List, [], ◌∷◌, ◌++◌, append_assoc, append-nil}
@@ -31,18 +33,18 @@ and_none true w = refl
 and_none false w = refl
 
 -- A pair of a key of the table that is not refused is settled by its own row.
-table-go : (k : ℕ) (ours v : List ℕ) (t : Bool) → eqb k 6 ≡ t → k < 12 → judge_by (kind_at k) k ours v ≡ settling (row_at k) v
+table-go : (k : ℕ) (ours v : List ℕ) (t : Bool) → eqb k 6 ≡ t → k < 12 → judge_by (kind_at k) k ours v ≡ Ok (settling (row_at k) v)
 unfolding kind_at known
 table-go k ours v true e h = rw (eqb-true k 6 e)
 table-go k ours v false e h = rw (is-negotiated k h (eqb-false k 6 e))
 
-pick-on : (b : Bool) (n : ℕ) (x : Judgement) → is_refused (pick b (J.Refused n) x) ≡ false → pick b (J.Refused n) x ≡ x
+pick-on : (b : Bool) (n : ℕ) (x : Std.Result Judgement ℕ) → is_refused (pick b (Err n) x) ≡ false → pick b (Err n) x ≡ x
 pick-on true n x e = false-true (sym e)
 pick-on false n x e = refl
 
 judged-as : (came : Bool) (stage : ℕ) (leading : Bool) (ours : List ℕ) (k : ℕ) (v : List ℕ) → k < 12
     → is_refused (judge_named came stage leading ours k v) ≡ false
-    → judge_named came stage leading ours k v ≡ settling (row_at k) v
+    → judge_named came stage leading ours k v ≡ Ok (settling (row_at k) v)
 unfolding judge_named judge_key
 judged-as came stage leading ours k v h e =
     let z : eqb k 28 ≡ false = ne_eqb k 28 (λ q. omega arith) in
@@ -59,42 +61,42 @@ same-either : (b : Bool) (x : ℕ) → x ≡ pick b x x
 same-either true x = refl
 same-either false x = refl
 
-known-value : (s : Keys) (i n : List ℕ) (j : Judgement) → (after_known s i j).value n ≡ pick (same n i) (taken (s.value n) j) (s.value n)
-known-value s i n (J.Refused x) = same-either (same n i) (s.value n)
-known-value s i n (J.Said r) = same-either (same n i) (s.value n)
-known-value s i n (J.Settles x r) = refl
+known-value : (s : Keys) (i n : List ℕ) (j : Std.Result Judgement ℕ) → (after_known s i j).value n ≡ pick (same n i) (taken (s.value n) j) (s.value n)
+known-value s i n (Err x) = same-either (same n i) (s.value n)
+known-value s i n (Ok (J.Said r)) = same-either (same n i) (s.value n)
+known-value s i n (Ok (J.Settles x r)) = refl
 
-after-go : (t u : Bool) (s : Keys) (i n : List ℕ) (j : Judgement) → eqb (key_of i) 28 ≡ t → same n i ≡ u → key_of n < 12
+after-go : (t u : Bool) (s : Keys) (i n : List ℕ) (j : Std.Result Judgement ℕ) → eqb (key_of i) 28 ≡ t → same n i ≡ u → key_of n < 12
     → (pick t s (after_known s i j)).value n ≡ pick u (taken (s.value n) j) (s.value n)
 after-go true true s i n j p q h =
     absurd (let a : key_of i ≡ 28 = eqb-true (key_of i) 28 p in let b : key_of n ≡ key_of i = ap key_of (same-eq n i q) in omega arith)
 after-go true false s i n j p q h = refl
 after-go false u s i n j p q h = known-value s i n j ∙ ap (λ (y : Bool). pick y (taken (s.value n) j) (s.value n)) q
 
-after-value : (s : Keys) (i n : List ℕ) (j : Judgement) → key_of n < 12 → (after s i j).value n ≡ pick (same n i) (taken (s.value n) j) (s.value n)
+after-value : (s : Keys) (i n : List ℕ) (j : Std.Result Judgement ℕ) → key_of n < 12 → (after s i j).value n ≡ pick (same n i) (taken (s.value n) j) (s.value n)
 unfolding after
 after-value s i n j h = after-go (eqb (key_of i) 28) (same n i) s i n j refl refl h
 
 pair-go : (t : Bool) (s : Keys) (stage : ℕ) (leading : Bool) (ours : List ℕ) (p : Pair) (n : List ℕ) → same n p.name ≡ t → key_of n < 12
     → is_refused (judge_pair stage leading ours s p) ≡ false
     → pick t (taken (s.value n) (judge_pair stage leading ours s p)) (s.value n)
-    ≡ pick t (taken (s.value n) (settling (row_at (key_of n)) p.value)) (s.value n)
+    ≡ pick t (taken (s.value n) (Ok (settling (row_at (key_of n)) p.value))) (s.value n)
 pair-go true s stage leading ours p n e h g =
     let q : key_of p.name ≡ key_of n = ap key_of (sym (same-eq n p.name e)) in
-    let z : judge_pair stage leading ours s p ≡ settling (row_at (key_of n)) p.value =
+    let z : judge_pair stage leading ours s p ≡ Ok (settling (row_at (key_of n)) p.value) =
     judged-as (s.came p.name) stage leading ours (key_of p.name) p.value (rw q h) g
-    ∙ ap (λ (k : ℕ). settling (row_at k) p.value) q in
+    ∙ ap (λ (k : ℕ). Ok (settling (row_at k) p.value)) q in
     ap (taken (s.value n)) z
 pair-go false s stage leading ours p n e h g = refl
 
 -- ---- which keys came
 
-known-came : (s : Keys) (i n : List ℕ) (j : Judgement) → is_refused j ≡ false → (after_known s i j).came n ≡ (same n i || s.came n)
-known-came s i n (J.Refused x) e = false-true (sym e)
-known-came s i n (J.Said r) e = refl
-known-came s i n (J.Settles x r) e = refl
+known-came : (s : Keys) (i n : List ℕ) (j : Std.Result Judgement ℕ) → is_refused j ≡ false → (after_known s i j).came n ≡ (same n i || s.came n)
+known-came s i n (Err x) e = false-true (sym e)
+known-came s i n (Ok (J.Said r)) e = refl
+known-came s i n (Ok (J.Settles x r)) e = refl
 
-came-go : (t u : Bool) (s : Keys) (i n : List ℕ) (j : Judgement) → eqb (key_of i) 28 ≡ t → same n i ≡ u → is_refused j ≡ false
+came-go : (t u : Bool) (s : Keys) (i n : List ℕ) (j : Std.Result Judgement ℕ) → eqb (key_of i) 28 ≡ t → same n i ≡ u → is_refused j ≡ false
     → (pick t s (after_known s i j)).came n ≡ ((not (eqb (key_of n) 28) && u) || s.came n)
 came-go true true s i n j p q h =
     let b : key_of n ≡ key_of i = ap key_of (same-eq n i q) in
@@ -107,21 +109,19 @@ came-go false true s i n j p q h =
     known-came s i n j h ∙ ap (λ (x : Bool). x || s.came n) q ∙ (rw k refl)
 came-go false false s i n j p q h = known-came s i n j h ∙ ap (λ (x : Bool). x || s.came n) q ∙ and_none (not (eqb (key_of n) 28)) (s.came n)
 
-after-came : (s : Keys) (i n : List ℕ) (j : Judgement) → is_refused j ≡ false → (after s i j).came n ≡ ((not (eqb (key_of n) 28) && same n i) || s.came n)
+after-came : (s : Keys) (i n : List ℕ) (j : Std.Result Judgement ℕ) → is_refused j ≡ false → (after s i j).came n ≡ ((not (eqb (key_of n) 28) && same n i) || s.came n)
 unfolding after
 after-came s i n j h = came-go (eqb (key_of i) 28) (same n i) s i n j refl refl h
 
 -- ---- pairs, one after another
 
-not-refused : (j : Judgement) (b : Bool) → (not (is_refused j) && b) ≡ true → is_refused j ≡ false
-not-refused (J.Refused n) b e = false-true e
-not-refused (J.Said r) b e = refl
-not-refused (J.Settles n r) b e = refl
+not-refused : (j : Std.Result Judgement ℕ) (b : Bool) → (not (is_refused j) && b) ≡ true → is_refused j ≡ false
+not-refused (Err n) b e = false-true e
+not-refused (Ok x) b e = refl
 
-goes_on : (j : Judgement) (r : Result) → is_refused j ≡ false → onward j r ≡ r
-goes_on (J.Refused n) r e = false-true (sym e)
-goes_on (J.Said y) r e = refl
-goes_on (J.Settles n y) r e = refl
+goes_on : (j : Std.Result Judgement ℕ) (r : Result) → is_refused j ≡ false → onward j r ≡ r
+goes_on (Err n) r e = false-true (sym e)
+goes_on (Ok x) r e = refl
 
 came-turn : (k u v w : Bool) → ((k && v) || ((k && u) || w)) ≡ ((k && (u || v)) || w)
 came-turn true true true w = refl
@@ -144,11 +144,11 @@ module _ (stage : ℕ) (leading : Bool) (ours : List ℕ) where
 
   -- It stops at a refused pair, after pairs that are not.
   pub judge-stopped : (s : Keys) (t : List ℕ) (before : List Pair) (p : Pair) (later : List Pair) (n : ℕ) → unrefused stage leading ours s before ≡ true
-      → judge_pair stage leading ours (keys_after stage leading ours s before) p ≡ J.Refused n → judge stage leading ours s t (before ++ (p ∷ later)) ≡ stopped n
+      → judge_pair stage leading ours (keys_after stage leading ours s before) p ≡ Err n → judge stage leading ours s t (before ++ (p ∷ later)) ≡ stopped n
   unfolding judge
   judge-stopped s t [] p later n e r =
       let k = judge_pair stage leading ours s p in
-      ap (λ (j : Judgement). onward j (judge stage leading ours (after s p.name k) (t ++ said_text p.name k) later)) r
+      ap (λ (j : Std.Result Judgement ℕ). onward j (judge stage leading ours (after s p.name k) (t ++ said_text p.name k) later)) r
   judge-stopped s t (o ∷ before) p later n e r =
       let j = judge_pair stage leading ours s o in
       goes_on j _ (not-refused j _ e) ∙ judge-stopped (after s o.name j) (t ++ said_text o.name j) before p later n (&&-right (not (is_refused j)) _ e) r
@@ -161,7 +161,7 @@ module _ (stage : ℕ) (leading : Bool) (ours : List ℕ) where
     pub status : ℕ
     pub split : ps ≡ before ++ (pair ∷ later)
     pub gone : unrefused stage leading ours s before ≡ true
-    pub refused : judge_pair stage leading ours (keys_after stage leading ours s before) pair ≡ J.Refused status
+    pub refused : judge_pair stage leading ours (keys_after stage leading ours s before) pair ≡ Err status
 
   stop-later : (p : Pair) (ps : List Pair) (s : Keys) → is_refused (judge_pair stage leading ours s p) ≡ false
       → Stops (after s p.name (judge_pair stage leading ours s p)) ps → Stops s (p ∷ ps)
@@ -175,11 +175,10 @@ module _ (stage : ℕ) (leading : Bool) (ours : List ℕ) where
     refused = w.refused;
   }
 
-  stop-go : (p : Pair) (ps : List Pair) (s : Keys) (j : Judgement) (b : Bool) → judge_pair stage leading ours s p ≡ j → (not (is_refused j) && b) ≡ false
+  stop-go : (p : Pair) (ps : List Pair) (s : Keys) (j : Std.Result Judgement ℕ) (b : Bool) → judge_pair stage leading ours s p ≡ j → (not (is_refused j) && b) ≡ false
       → (b ≡ false → Stops (after s p.name (judge_pair stage leading ours s p)) ps) → Stops s (p ∷ ps)
-  stop-go p ps s (J.Refused m) b q e ih = record { before = []; pair = p; later = ps; status = m; split = refl; gone = refl; refused = q }
-  stop-go p ps s (J.Said r) b q e ih = stop-later p ps s (ap is_refused q) (ih e)
-  stop-go p ps s (J.Settles x r) b q e ih = stop-later p ps s (ap is_refused q) (ih e)
+  stop-go p ps s (Err m) b q e ih = record { before = []; pair = p; later = ps; status = m; split = refl; gone = refl; refused = q }
+  stop-go p ps s (Ok x) b q e ih = stop-later p ps s (ap is_refused q) (ih e)
 
   pub stops : (s : Keys) (ps : List Pair) → unrefused stage leading ours s ps ≡ false → Stops s ps
   stops s [] e = false-true (sym e)

@@ -1,5 +1,6 @@
 -- The pairs of a block, judged left to right: the first refusal decides.
-use Rattle.std.specs.Prelude.{ℕ, Bool, List, [], ◌∷◌, ◌++◌}
+use Rattle.std.specs.Prelude as Std
+use Rattle.std.specs.Prelude.{ℕ, Bool, List, [], ◌∷◌, ◌++◌, Ok, Err}
 use Rattle.text.specs.Text.{pick}
 use Rattle.text_block.specs.Block.{name_in, value_in, formed, pairs}
 use Rattle.text_block.specs.Block as Text
@@ -7,7 +8,6 @@ use Rattle.key_table.specs.Table.{key_of}
 use Rattle.keys.specs.Judge.{judge_named}
 use Rattle.key_replies.specs.Answer.{said_text}
 use Rattle.key_values.specs.declared.value.Judgement.{Judgement}
-use Rattle.key_values.specs.declared.value.Judgement.TheVariants as J
 use Rattle.login_book.specs.Keys.{Keys, after}
 
 -- a judged block: a status refuses it, or this is settled and answered
@@ -16,13 +16,12 @@ pub data Result : Type 0 where
   went : Keys → List ℕ → Result
 
 -- a refused pair decides, and after any other the rest does
-abbrev pub onward : Judgement → Result → Result
-onward (J.Refused status) r = stopped status
-onward (J.Said x) r = r
-onward (J.Settles n x) r = r
+abbrev pub onward : Std.Result Judgement ℕ → Result → Result
+onward (Err status) r = stopped status
+onward (Ok j) r = r
 
 -- what is said of a pair, after what is settled so far
-abbrev pub judge_pair : ℕ → Bool → List ℕ → Keys → Text.Pair → Judgement
+abbrev pub judge_pair : ℕ → Bool → List ℕ → Keys → Text.Pair → Std.Result Judgement ℕ
 judge_pair stage leading ours s p = judge_named (s.came p.name) stage leading ours (key_of p.name) p.value
 
 -- the pairs, after what is settled and the answer t so far; answers stand in offer order
@@ -33,7 +32,7 @@ judge stage leading ours s t (p ∷ ps) =
     (judge stage leading ours (after s p.name (judge_pair stage leading ours s p)) (t ++ said_text p.name (judge_pair stage leading ours s p)) ps)
 
 -- what is said of the first pair of a text
-abbrev pub judge_first : ℕ → Bool → List ℕ → Keys → List ℕ → Judgement
+abbrev pub judge_first : ℕ → Bool → List ℕ → Keys → List ℕ → Std.Result Judgement ℕ
 judge_first stage leading ours s rest = judge_named (s.came (name_in rest)) stage leading ours (key_of (name_in rest)) (value_in rest)
 
 -- A breach of the block's form is 0x0200 before a pair is judged.

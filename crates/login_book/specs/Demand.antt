@@ -1,7 +1,7 @@
 -- Demand 2 of the login phase, part by part, of a list of requests and answers from a fresh login. Which rule refuses a request, and what it is answered
 -- otherwise, stands in Rules; what a list of events says by itself, in Events. The theorem that gives it, for every list of calls of the function
 -- itself, is `demand2` in login/proofs/Tied.
-use Rattle.std.specs.Prelude.{ℕ, suc, ◌<◌, ◌≤◌, Bool, true, false, not, ◌&&◌, ◌||◌, ◌≡◌, ◌↔◌, ◌⊎◌, length, drop, eqb}
+use Rattle.std.specs.Prelude.{ℕ, suc, ◌<◌, ◌≤◌, Bool, true, false, not, ◌&&◌, ◌||◌, ◌≡◌, ◌↔◌, ◌⊎◌, length, drop, eqb, Result, Ok, Err}
 use mathlib.Core.List.{List, [], ◌∷◌, ◌++◌, Memᴰ}
 use Rattle.request_header.specs.declared.Login.{Login}
 use Rattle.text.specs.Text.{pick, same}
@@ -70,15 +70,15 @@ is_full (in_stage stage) = eqb stage 3
 -- ---- settled values
 
 -- what is in force after an offer
-abbrev pub taken : ℕ → Judgement → ℕ
-taken x (J.Refused status) = x
-taken x (J.Said r) = x
-taken x (J.Settles n r) = n
+abbrev pub taken : ℕ → Result Judgement ℕ → ℕ
+taken x (Err status) = x
+taken x (Ok (J.Said r)) = x
+taken x (Ok (J.Settles n r)) = n
 
 -- the value of the key of this name after pairs, x before them: only that key's own offers count, each settled with ours alone
 abbrev pub value_after : List ℕ → ℕ → List Pair → ℕ
 value_after n x [] = x
-value_after n x (p ∷ ps) = value_after n (pick (same n p.name) (taken x (settling (row_at (key_of n)) p.value)) x) ps
+value_after n x (p ∷ ps) = value_after n (pick (same n p.name) (taken x (Ok (settling (row_at (key_of n)) p.value))) x) ps
 
 -- the key of this name is among the pairs
 abbrev pub is_offered : List ℕ → List Pair → Bool

@@ -1,6 +1,6 @@
 -- A login as a list of requests with their answers, and what that list says by itself: whether the login is over, its stage and its first request,
 -- whether a block was judged, how many bytes are gathered, which keys came with which values. The rules of a request's answer are not used here.
-use Rattle.std.specs.Prelude.{ℕ, ◌+◌, Bool, true, false, not, ◌&&◌, ◌||◌, List, [], ◌∷◌, ◌++◌, length, take, eqb}
+use Rattle.std.specs.Prelude.{ℕ, ◌+◌, Bool, true, false, not, ◌&&◌, ◌||◌, List, [], ◌∷◌, ◌++◌, length, take, eqb, Result, Ok, Err}
 use Rattle.request_header.specs.Request.{read_pdu, limits, data_of}
 use Rattle.request_header.specs.Request as Read
 use Rattle.request_header.specs.Kind.{if_login}
@@ -9,7 +9,6 @@ use Rattle.text.specs.Text.{pick}
 use Rattle.text_block.specs.Block.{Pair, pairs}
 use Rattle.key_replies.specs.Answer.{said_text}
 use Rattle.key_values.specs.declared.value.Judgement.{Judgement}
-use Rattle.key_values.specs.declared.value.Judgement.TheVariants as J
 use Rattle.login_book.specs.Keys.{Keys, none_came, after}
 use Rattle.login_book.specs.Book.{Phase, at_start, begun, LoginBook}
 use Rattle.login_book.specs.Block.{judge_pair}
@@ -94,10 +93,9 @@ text_of (answered stage transit csg nsg tsih text) = text
 
 -- ---- pairs, each judged after those before it
 
-abbrev pub is_refused : Judgement → Bool
-is_refused (J.Refused status) = true
-is_refused (J.Said r) = false
-is_refused (J.Settles n r) = false
+abbrev pub is_refused : Result Judgement ℕ → Bool
+is_refused (Err status) = true
+is_refused (Ok j) = false
 
 module _ (stage : ℕ) (leading : Bool) (ours : List ℕ) where
   -- no pair is refused

@@ -1,5 +1,5 @@
 -- The keys of a login by their names: which came, and what value of each is in force.
-use Rattle.std.specs.Prelude.{ℕ, Bool, false, ◌&&◌, ◌||◌, List, eqb}
+use Rattle.std.specs.Prelude.{ℕ, Bool, false, ◌&&◌, ◌||◌, List, eqb, Result, Ok, Err}
 use Rattle.text.specs.Text.{pick, bytes, same}
 use Rattle.key_table.specs.Table.{key_of, row_at}
 use Rattle.key_values.specs.declared.value.Judgement.{Judgement}
@@ -26,11 +26,11 @@ abbrev pub settled : Keys → List ℕ → ℕ → Keys
 settled s n x = record { came = λ (m : List ℕ). same m n || s.came m; value = λ (m : List ℕ). pick (same m n) x (s.value m) }
 
 -- after a known key's judgement: a refused pair changes nothing, any other came, and its value is in force if it has one now
-abbrev pub after_known : Keys → List ℕ → Judgement → Keys
-after_known s n (J.Refused status) = s
-after_known s n (J.Said r) = marked s n
-after_known s n (J.Settles x r) = settled s n x
+abbrev pub after_known : Keys → List ℕ → Result Judgement ℕ → Keys
+after_known s n (Err status) = s
+after_known s n (Ok (J.Said r)) = marked s n
+after_known s n (Ok (J.Settles x r)) = settled s n x
 
 -- after a pair of this name; a name that is not known changes nothing
-unfoldable pub after : Keys → List ℕ → Judgement → Keys
+unfoldable pub after : Keys → List ℕ → Result Judgement ℕ → Keys
 after s n j = pick (eqb (key_of n) 28) s (after_known s n j)

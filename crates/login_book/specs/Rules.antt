@@ -1,10 +1,9 @@
 -- Which rule refuses a request, each with all the rules before it kept, in the order of paper 01; and when none does. Stated beside the definitions
 -- of Login, which are not used here.
-use Rattle.std.specs.Prelude.{ℕ, ◌+◌, ◌<◌, ◌≤◌, Bool, true, false, ◌≡◌, List, [], ◌∷◌, ◌++◌, ◌⊎◌, length, take, drop, eqb}
+use Rattle.std.specs.Prelude.{ℕ, ◌+◌, ◌<◌, ◌≤◌, Bool, true, false, ◌≡◌, List, [], ◌∷◌, ◌++◌, ◌⊎◌, length, take, drop, eqb, Err}
 use Rattle.request_header.specs.declared.Login.{Login}
 use Rattle.text.specs.Text.{pick, bytes}
 use Rattle.text_block.specs.Block.{Pair, formed, pairs}
-use Rattle.key_values.specs.declared.value.Judgement.TheVariants as J
 use Rattle.login_book.specs.Keys.{named}
 use Rattle.login_book.specs.Book.{Stage, start, in_stage, at_start, begun, LoginBook}
 use Rattle.login_book.specs.Block.{judge_pair}
@@ -98,7 +97,7 @@ pub data Refuses (b : LoginBook) (c : Call) : ℕ → ℕ → Type 0 where
   -- a pair is refused, and none before it
   pair_refused : (q : Login) (d : List ℕ) → Formed b c q d → (before : List Pair) (p : Pair) (later : List Pair) (status : ℕ)
       → pairs 64 (block b c d) ≡ before ++ (p ∷ later) → unrefused q.csg (eqb q.tsih 0) c.ours b.keys before ≡ true
-      → judge_pair q.csg (eqb q.tsih 0) c.ours (keys_after q.csg (eqb q.tsih 0) c.ours b.keys before) p ≡ J.Refused status
+      → judge_pair q.csg (eqb q.tsih 0) c.ours (keys_after q.csg (eqb q.tsih 0) c.ours b.keys before) p ≡ Err status
       → Refuses b c 6 status
   -- the first judged block lacks a name, after its pairs
   names_lacking : (q : Login) (d : List ℕ) → Unrefused b c q d → b.judged ≡ false

@@ -1,13 +1,13 @@
 // Login and Logout Responses made of words.
-#![tactic(auto)]
+#![tactic(auto, using(std::proofs::lemmas::Bool::Decides::nat_tests))]
 
 ghost use Rattle.std.specs.Prelude.{◌≡◌};
 ghost use Rattle.response_words.specs.ResponseWords.{login_response_of, logout_response_of};
 
 use response_header::{LoginResponse, LogoutResponse, Response};
-use response_words::{FromWords, WIDE_8, WIDE_16, WIDE_32};
+use response_words::{Unfit, WIDE_8, WIDE_16, WIDE_32};
 
-pub fn login_response(w: &[u64; 10]) -> FromWords
+pub fn login_response(w: &[u64; 10]) -> Result<Response, Unfit>
     ensures { result ≡ login_response_of w.now }
 {
     let t = w[1];
@@ -22,23 +22,23 @@ pub fn login_response(w: &[u64; 10]) -> FromWords
     if (((t < 2) & (csg < WIDE_8)) & ((nsg < WIDE_8) & (stated < WIDE_32)))
         & (((tsih < WIDE_16) & (itt < WIDE_32)) & ((class < WIDE_8) & (detail < WIDE_8)))
     {
-        FromWords::Response(Response::LoginResponse(LoginResponse {
+        Ok(Response::LoginResponse(LoginResponse {
             transit: t != 0,
             csg: csg as u8,
             nsg: nsg as u8,
             data_segment_length: stated as u32,
-            isid: isid,
+            isid,
             tsih: tsih as u16,
             initiator_task_tag: itt as u32,
             status_class: class as u8,
             status_detail: detail as u8,
         }))
     } else {
-        FromWords::Unfit(stated)
+        Err(Unfit { stated })
     }
 }
 
-pub fn logout_response(w: &[u64; 10]) -> FromWords
+pub fn logout_response(w: &[u64; 10]) -> Result<Response, Unfit>
     ensures { result ≡ logout_response_of w.now }
 {
     let code = w[1];
@@ -46,13 +46,13 @@ pub fn logout_response(w: &[u64; 10]) -> FromWords
     let wait = w[3];
     let retain = w[4];
     if ((code < WIDE_8) & (itt < WIDE_32)) & ((wait < WIDE_16) & (retain < WIDE_16)) {
-        FromWords::Response(Response::LogoutResponse(LogoutResponse {
+        Ok(Response::LogoutResponse(LogoutResponse {
             response: code as u8,
             initiator_task_tag: itt as u32,
             time2wait: wait as u16,
             time2retain: retain as u16,
         }))
     } else {
-        FromWords::Unfit(0)
+        Err(Unfit { stated: 0 })
     }
 }

@@ -1,4 +1,6 @@
 -- The gather area beside the verdict on a block.
+use Rattle.std.specs.Prelude as Std
+use Rattle.std.specs.Prelude.{Ok, Err}
 use mathlib.Core.Path.{◌≡◌, refl, ap, ◌∙◌}
 use mathlib.Core.Bool.{Bool, true}
 use mathlib.Core.List.{List}
@@ -12,16 +14,14 @@ use Rattle.login_book.specs.Login.{joined}
 use Rattle.login_book.specs.Block.{Result, stopped, went}
 use Rattle.login_types.specs.Agree.{keys_of}
 use Rattle.login_block.specs.Promises.{result_of}
-use Rattle.login_block.specs.declared.block.Verdict.{Verdict}
-use Rattle.login_block.specs.declared.block.Verdict.TheVariants as D
 use Rattle.login_block.specs.declared.block.Judged.{Judged}
 use Rattle.login_text.specs.Promises.{block_result, Written}
 use Rattle.login_gather.specs.Promises.{block_of, Joined, undone, area_of, JudgedIn}
 use Rattle.login_gather.proofs.Pieces.{block-is, back}
 
-area-is : (s : Keys) (v : Verdict) (t g h k : List ℕ) (at : ℕ) (r : Result) → result_of v s t ≡ r → joined h at k ≡ g → undone v h at k ≡ area_of r g h
-area-is s (D.Refused x) t g h k at r w e = e ∙ ap (λ (y : Result). area_of y g h) w
-area-is s (D.Answered n) t g h k at r w e = ap (λ (y : Result). area_of y g h) w
+area-is : (s : Keys) (v : Std.Result ℕ ℕ) (t g h k : List ℕ) (at : ℕ) (r : Result) → result_of v s t ≡ r → joined h at k ≡ g → undone v h at k ≡ area_of r g h
+area-is s (Err x) t g h k at r w e = e ∙ ap (λ (y : Result). area_of y g h) w
+area-is s (Ok n) t g h k at r w e = ap (λ (y : Result). area_of y g h) w
 
 area-either : (r : Result) (g : List ℕ) → g ≡ area_of r g g
 area-either (stopped s) g = refl

@@ -1,13 +1,12 @@
 -- What the code holds of the gather area, for its contracts. This follows the code; the rules are in login_book's Login.
-use Rattle.std.specs.Prelude.{ℕ, ◌+◌, Bool, ◌≡◌, List, ◌++◌, length, take, drop, eqb}
+use Rattle.std.specs.Prelude as Std
+use Rattle.std.specs.Prelude.{ℕ, ◌+◌, Bool, ◌≡◌, List, ◌++◌, length, take, drop, eqb, Ok, Err}
 use Rattle.text.specs.Text.{pick}
 use Rattle.key_table.specs.declared.parameters.Settled.{Settled}
 use Rattle.login_types.specs.Agree.{keys_of}
 use Rattle.login_book.specs.Login.{joined}
 use Rattle.login_book.specs.Block.{Result, stopped, went}
 use Rattle.login_block.specs.declared.block.Judged.{Judged}
-use Rattle.login_block.specs.declared.block.Verdict.{Verdict}
-use Rattle.login_block.specs.declared.block.Verdict.TheVariants as D
 use Rattle.login_text.specs.Promises.{block_result, Written}
 
 -- The block judged is the request's own data if nothing was gathered, and the gathered bytes otherwise.
@@ -21,9 +20,9 @@ pub record Joined (g : List ℕ) (at : ℕ) (d new kept : List ℕ) (r : ℕ) : 
   pub old : take (length d) kept ≡ take (length d) (drop at g)
 
 -- what is put back into the area g: the bytes k at `at`, where the block is refused
-abbrev pub undone : Verdict → List ℕ → ℕ → List ℕ → List ℕ
-undone (D.Refused s) g at k = joined g at k
-undone (D.Answered n) g at k = g
+abbrev pub undone : Std.Result ℕ ℕ → List ℕ → ℕ → List ℕ → List ℕ
+undone (Err s) g at k = joined g at k
+undone (Ok n) g at k = g
 
 -- the block that is judged after n gathered bytes of the area g, and the area then
 abbrev pub judged_block : ℕ → List ℕ → List ℕ → List ℕ

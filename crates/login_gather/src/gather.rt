@@ -3,11 +3,12 @@ ghost use Rattle.std.specs.Prelude.{◌≡◌, ◌+◌, ◌≤◌, length, take}
 ghost use Rattle.login_gather.specs.Promises.{block_of, Joined, undone, JudgedIn};
 
 use key_table::parameters::Settled;
-use login_block::block::{Judged, Verdict};
+use login_block::block::Judged;
 use login_text::verdict::judge_text;
 use text::slice::append;
 
 // The block to judge: the request's own data if nothing was gathered, and the gathered bytes otherwise.
+#[tactic(auto, unfolding(crate::specs::Promises::block_of))]
 fn block_of<'a>(piece: &'a [u8], gather: &'a [u8], gathered: usize) -> &'a [u8]
     requires { gathered ≤ length gather.now }
     ensures { result.now ≡ block_of piece.now gather.now gathered }
@@ -31,15 +32,12 @@ fn join(gather: &mut [u8], at: usize, piece: &[u8], kept: &mut [u8]) -> usize
 }
 
 // What was kept is put back where the block is refused.
-fn undo(v: Verdict, gather: &mut [u8], at: usize, n: usize, kept: &[u8])
+fn undo(v: Result<usize, u16>, gather: &mut [u8], at: usize, n: usize, kept: &[u8])
     requires { (at + n ≤ length gather.old) × (n ≤ length kept.now) }
     ensures { gather.new ≡ undone v gather.old at (take n kept.now) }
 {
-    match v {
-        Verdict::Refused(_) => {
-            append(gather, at, &kept[..n]);
-        }
-        Verdict::Answered(_) => {}
+    if v.is_err() {
+        append(gather, at, &kept[..n]);
     }
 }
 
@@ -80,7 +78,6 @@ pub fn judge_request(
         block_of(piece, gather, total),
         text,
     );
-    let v = j.verdict;
-    undo(v, gather, at, piece.len(), &kept);
+    undo(j.verdict, gather, at, piece.len(), &kept);
     j
 }

@@ -28,11 +28,9 @@ pub fn request(
 {
     let l = load(n, values, seen);
     let step = login_request(l, pdu, live, new, ours, gather, text);
-    let after = step.state;
-    let a = step.answer;
-    *answer = answer_in_words(a);
-    if changes_nothing(a) {
+    *answer = answer_in_words(step.answer);
+    if changes_nothing(step.answer) {
         return;
     }
-    store(n, values, seen, after);
+    store(n, values, seen, step.state);
 }

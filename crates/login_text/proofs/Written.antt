@@ -1,4 +1,6 @@
 -- What the code's verdict on a block says, of the text output.
+use Rattle.std.specs.Prelude as Std
+use Rattle.std.specs.Prelude.{Ok, Err}
 use mathlib.Core.Path.{◌≡◌, refl, ap}
 use mathlib.Core.Bool.{Bool, true, false, not, ◌&&◌, ◌||◌}
 use mathlib.Core.List.{List, ◌++◌}
@@ -14,8 +16,6 @@ use Rattle.login_text.specs.Promises.{both_seen, with_names, block_result, verdi
 use Rattle.login_text.specs.Promises.{settled_after, Written}
 use Rattle.login_book.specs.Block.{Result, stopped, went}
 use Rattle.login_block.specs.Promises.{result_of, count_of, JudgedAs}
-use Rattle.login_block.specs.declared.block.Verdict.{Verdict}
-use Rattle.login_block.specs.declared.block.Verdict.TheVariants as D
 use Rattle.text.specs.Text.{pick}
 
 -- The names came that the keys say came.
@@ -24,7 +24,7 @@ unfolding named
 names_at s = refl
 
 -- What the verdict v on a judged block says with the keys s, of the text output.
-record Shown (r : Result) (s : Keys) (v : Verdict) (old new : List ℕ) : Type 0 where
+record Shown (r : Result) (s : Keys) (v : Std.Result ℕ ℕ) (old new : List ℕ) : Type 0 where
   result : result_of v s new ≡ r
   few : count_of v ≤ length new
   text : new ≡ text_of r old
@@ -37,26 +37,26 @@ module _ (s : Keys) (n : ℕ) (o t : List ℕ) (h : n ≤ length o) where
   text-few = omega (arith, length-append (take n o) (drop (length (take n o)) t), length-take-le n o h)
 
   named-go : (j m : Bool) → named s ≡ m
-      → Shown (pick (not j && not (named s)) (stopped 0x0207) (went s (take n o))) s (pick (j || m) (D.Answered n) (D.Refused 0x0207)) t
-      (text_after (pick (j || m) (D.Answered n) (D.Refused 0x0207)) o t)
+      → Shown (pick (not j && not (named s)) (stopped 0x0207) (went s (take n o))) s (pick (j || m) (Ok n) (Err 0x0207)) t
+      (text_after (pick (j || m) (Ok n) (Err 0x0207)) o t)
   named-go true m e = record { result = ap (went s) text_front; few = text-few; text = refl }
   named-go false true e = rw e (record { result = ap (went s) text_front; few = text-few; text = refl })
   named-go false false e = rw e (record { result = refl; few = zero-le; text = refl })
 
-shown-go : (judged : Bool) (s : Keys) (v : Verdict) (o t : List ℕ) → count_of v ≤ length o
+shown-go : (judged : Bool) (s : Keys) (v : Std.Result ℕ ℕ) (o t : List ℕ) → count_of v ≤ length o
     → Shown (with_names judged (result_of v s o)) s (verdict_after (judged || named s) v) t (text_after (verdict_after (judged || named s) v) o t)
-shown-go judged s (D.Refused x) o t h = record { result = refl; few = zero-le; text = refl }
-shown-go judged s (D.Answered n) o t h = named-go s n o t h judged (named s) refl
+shown-go judged s (Err x) o t h = record { result = refl; few = zero-le; text = refl }
+shown-go judged s (Ok n) o t h = named-go s n o t h judged (named s) refl
 
 -- and what is settled beside it, t or after a refusal s
-written-go : (r : Result) (s t : Settled) (v : Verdict) (old new : List ℕ) → Shown r (keys_of t) v old new
+written-go : (r : Result) (s t : Settled) (v : Std.Result ℕ ℕ) (old new : List ℕ) → Shown r (keys_of t) v old new
     → Written r s (record { settled = settled_after v s t; verdict = v }) old new
-written-go r s t (D.Refused x) old new w = record { result = w.result; few = w.few; stays = refl; text = w.text }
-written-go r s t (D.Answered n) old new w = record { result = w.result; few = w.few; stays = refl; text = w.text }
+written-go r s t (Err x) old new w = record { result = w.result; few = w.few; stays = refl; text = w.text }
+written-go r s t (Ok n) old new w = record { result = w.result; few = w.few; stays = refl; text = w.text }
 
 -- and the same of the block, by what each callee says
 pub written-by : (judged : Bool) (stage : ℕ) (leading : Bool) (ours : List ℕ) (s : Settled) (a b old : List ℕ) (t u : Settled)
-    → (v w : Verdict) (o x y : List ℕ) (m : Bool) → a ≡ start_text judged → JudgedAs stage leading ours (keys_of s) a b old v (keys_of t) o → m ≡ named (keys_of t)
+    → (v w : Std.Result ℕ ℕ) (o x y : List ℕ) (m : Bool) → a ≡ start_text judged → JudgedAs stage leading ours (keys_of s) a b old v (keys_of t) o → m ≡ named (keys_of t)
     → w ≡ verdict_after (judged || m) v → y ≡ text_after (verdict_after (judged || m) v) o x → u ≡ settled_after w s t
     → Written (block_result judged stage leading ours (keys_of s) b) s (record { settled = u; verdict = w }) x y
 unfolding block_result

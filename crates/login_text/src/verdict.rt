@@ -8,13 +8,14 @@ ghost use Rattle.login_text.specs.Promises.{both_seen, verdict_after, text_after
 
 use key_table::parameters::{Parameters, Settled};
 use key_table::table::{INITIATOR_NAME, TARGET_NAME};
-use login_block::block::{Judged, Verdict, judge_block};
+use login_block::block::{Judged, judge_block};
 use text::slice::append;
 
 // The longest answer: the portal group's 23 bytes and 64 pairs of 78.
 const MAX_ANSWER: usize = 5015;
 
 // The first judged block's answer starts with our portal group.
+#[tactic(auto, unfolding(login_book::specs::Login::start_text))]
 fn start_text(out: &mut [u8], judged: bool) -> usize
     requires { 23 ≤ length out.old }
     ensures { Appended out.old 0 (start_text judged) out.new result }
@@ -26,6 +27,7 @@ fn start_text(out: &mut [u8], judged: bool) -> usize
 }
 
 // Both names came.
+#[tactic(auto, unfolding(key_table::specs::Table::key_of, key_table::specs::Table::known, text::specs::Text::same))]
 fn is_named(seen: &[bool; 28]) -> bool
     ensures { result ≡ both_seen seen.now }
 {
@@ -33,29 +35,30 @@ fn is_named(seen: &[bool; 28]) -> bool
 }
 
 // Only an answer that is whole goes into the text output; the first judged block needs both names.
-fn put_answer(v: Verdict, named: bool, answer: &[u8], text: &mut [u8]) -> Verdict
+fn put_answer(
+    v: Result<usize, u16>,
+    named: bool,
+    answer: &[u8],
+    text: &mut [u8],
+) -> Result<usize, u16>
     requires { (count_of v ≤ length answer.now) × (length answer.now ≤ length text.old) }
     ensures { (result ≡ verdict_after named v) × (text.new ≡ text_after (verdict_after named v) answer.now text.old) }
 {
-    match v {
-        Verdict::Refused(status) => Verdict::Refused(status),
-        Verdict::Answered(n) => {
-            if !named {
-                return Verdict::Refused(0x0207);
-            }
-            append(text, 0, &answer[..n]);
-            Verdict::Answered(n)
-        }
+    let n = v?;
+    if !named {
+        return Err(0x0207);
     }
+    append(text, 0, &answer[..n]);
+    Ok(n)
 }
 
 // A refused block settles nothing, also not the pairs left of the refused one.
-fn settled_after(v: Verdict, s: Settled, t: Settled) -> Settled
+fn settled_after(v: Result<usize, u16>, s: Settled, t: Settled) -> Settled
     ensures { result ≡ settled_after v s t }
 {
     match v {
-        Verdict::Refused(_) => s,
-        Verdict::Answered(_) => t,
+        Err(_) => s,
+        Ok(_) => t,
     }
 }
 
@@ -75,8 +78,7 @@ pub fn judge_text(
     let mut scratch = [0u8; MAX_ANSWER];
     let at = start_text(&mut scratch, judged);
     let mut seen = s.seen;
-    let old = s.parameters;
-    let mut values = old.values;
+    let mut values = s.parameters.values;
     let v = judge_block(
         &mut seen,
         &mut values,
@@ -89,8 +91,10 @@ pub fn judge_text(
     );
     let named = judged | is_named(&seen);
     let verdict = put_answer(v, named, &scratch, text);
-    let parameters = Parameters { values };
-    let reached = Settled { seen, parameters };
+    let reached = Settled {
+        seen,
+        parameters: Parameters { values },
+    };
     let settled = settled_after(verdict, s, reached);
     Judged { settled, verdict }
 }

@@ -1,4 +1,5 @@
 -- The struct stands for the book: fresh, and after a judged pair, where the places of the keys are told apart as their names are.
+use Rattle.std.specs.Prelude.{Result, Ok, Err}
 use mathlib.Core.Path.{◌≡◌, refl, sym, ap, ◌∙◌, fun_ext}
 use mathlib.Core.Bool.{Bool, true, false, not, ◌&&◌, ◌||◌}
 use mathlib.Core.List.{List}
@@ -21,8 +22,8 @@ use Rattle.key_values.specs.declared.value.Judgement.{Judgement}
 use Rattle.key_values.specs.declared.value.Judgement.TheVariants as J
 use Rattle.keys.specs.Judge.{good_length, initiator_name, target_name, session_type, digest, task_reporting, auth_method, judge_by, stands, leading_only, judge_key, judge_named}
 use Rattle.keys.specs.Promises as Code
-use Rattle.login_book.specs.Keys.{Keys, none_came, after_known, after}
-use Rattle.login_book.specs.Book.{LoginBook, at_start, fresh_book}
+use Rattle.login_book.specs.Keys.{none_came, after_known, after}
+use Rattle.login_book.specs.Book.{at_start, fresh_book}
 use Rattle.login_types.specs.Agree.{keys_of, book_of, fresh_login, IsFresh}
 use Rattle.login_types.specs.declared.state.State.{State}
 
@@ -65,20 +66,20 @@ module _ (n m : List ℕ) where
 
 -- ---- only a key of the table is settled
 
-abbrev settles : Judgement → Bool
-settles (J.Refused n) = false
-settles (J.Said r) = false
-settles (J.Settles n r) = true
+abbrev settles : Result Judgement ℕ → Bool
+settles (Err n) = false
+settles (Ok (J.Said r)) = false
+settles (Ok (J.Settles n r)) = true
 
-settles-past : (b : Bool) (x y : Judgement) → settles x ≡ false → settles (pick b x y) ≡ true → settles y ≡ true
+settles-past : (b : Bool) (x y : Result Judgement ℕ) → settles x ≡ false → settles (pick b x y) ≡ true → settles y ≡ true
 settles-past true x y e h = false-true (sym e ∙ h)
 settles-past false x y e h = h
 
-settles-none : (b : Bool) (x y : Judgement) → settles x ≡ false → settles y ≡ false → settles (pick b x y) ≡ false
+settles-none : (b : Bool) (x y : Result Judgement ℕ) → settles x ≡ false → settles y ≡ false → settles (pick b x y) ≡ false
 settles-none true x y e f = e
 settles-none false x y e f = f
 
-never : {A : Type 0} (x : Judgement) → settles x ≡ false → settles x ≡ true → A
+never : {A : Type 0} (x : Result Judgement ℕ) → settles x ≡ false → settles x ≡ true → A
 never x e h = false-true (sym e ∙ h)
 
 settles-kind : (d : Kind) (k : ℕ) (ours v : List ℕ) → settles (judge_by d k ours v) ≡ true → code d ≤ 1
@@ -108,32 +109,32 @@ settles-go false came stage leading ours k v e h s =
 
 -- ---- after a judged pair
 
-known-long : (s : Settled) (k : ℕ) (j : Judgement) → length (Code.after_key s k j).seen ≡ length s.seen
-known-long s k (J.Refused x) = refl
-known-long s k (J.Said r) = length-set s.seen k true
-known-long s k (J.Settles x r) = length-set s.seen k true
+known-long : (s : Settled) (k : ℕ) (j : Result Judgement ℕ) → length (Code.after_key s k j).seen ≡ length s.seen
+known-long s k (Err x) = refl
+known-long s k (Ok (J.Said r)) = length-set s.seen k true
+known-long s k (Ok (J.Settles x r)) = length-set s.seen k true
 
-long-go : (t : Bool) (s : Settled) (k : ℕ) (j : Judgement) → length (pick t s (Code.after_key s k j)).seen ≡ length s.seen
+long-go : (t : Bool) (s : Settled) (k : ℕ) (j : Result Judgement ℕ) → length (pick t s (Code.after_key s k j)).seen ≡ length s.seen
 long-go true s k j = refl
 long-go false s k j = known-long s k j
 
-pub after-long : (s : Settled) (k : ℕ) (j : Judgement) → length (Code.after s k j).seen ≡ length s.seen
+pub after-long : (s : Settled) (k : ℕ) (j : Result Judgement ℕ) → length (Code.after s k j).seen ≡ length s.seen
 unfolding Code.after
 after-long s k j = long-go (eqb k 28) s k j
 
 module _ (s : Settled) (seen : length s.seen ≡ 28) (values : length s.parameters.values ≡ 12) (n : List ℕ) where
-  keys-known : (j : Judgement) → key_of n < 28 → (settles j ≡ true → key_of n < 12) → keys_of (Code.after_key s (key_of n) j) ≡ after_known (keys_of s) n j
-  keys-known (J.Refused x) h t = refl
-  keys-known (J.Said r) h t = λ i. record {
+  keys-known : (j : Result Judgement ℕ) → key_of n < 28 → (settles j ≡ true → key_of n < 12) → keys_of (Code.after_key s (key_of n) j) ≡ after_known (keys_of s) n j
+  keys-known (Err x) h t = refl
+  keys-known (Ok (J.Said r)) h t = λ i. record {
     came = fun_ext (λ (m : List ℕ). came-go n m (same m n) s.seen refl h seen) i;
     value = λ (m : List ℕ). get_or s.parameters.values (key_of m) 0;
   }
-  keys-known (J.Settles x r) h t = λ i. record {
+  keys-known (Ok (J.Settles x r)) h t = λ i. record {
     came = fun_ext (λ (m : List ℕ). came-go n m (same m n) s.seen refl h seen) i;
     value = fun_ext (λ (m : List ℕ). value-go n m (same m n) s.parameters.values x refl (t refl) values) i;
   }
 
-  keys-go : (t : Bool) (j : Judgement) → eqb (key_of n) 28 ≡ t → (settles j ≡ true → key_of n < 12) → keys_of (pick t s (Code.after_key s (key_of n) j)) ≡ pick t (keys_of s) (after_known (keys_of s) n j)
+  keys-go : (t : Bool) (j : Result Judgement ℕ) → eqb (key_of n) 28 ≡ t → (settles j ≡ true → key_of n < 12) → keys_of (pick t s (Code.after_key s (key_of n) j)) ≡ pick t (keys_of s) (after_known (keys_of s) n j)
   keys-go true j e h = refl
   keys-go false j e h = let z : key_of n ≡ 28 → ⊥ = eqb-false (key_of n) 28 e in keys-known j (omega (arith, z, key-most n)) h
 

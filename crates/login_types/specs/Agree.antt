@@ -1,6 +1,7 @@
 -- How the code's struct of a login stands for the book, what the code's answer says, and what a refusal leaves of the struct itself.
-use Rattle.std.specs.Prelude.{ℕ, ◌≡◌, true, false, List, get_or, take, eqb}
+use Rattle.std.specs.Prelude.{ℕ, ◌≡◌, true, false, List, get_or, take, eqb, Result, Ok, Err}
 use Rattle.refusal.specs.Refusal.{number, status}
+use Rattle.refusal.specs.declared.Refusal.{Refusal}
 use Rattle.text.specs.Text.{pick}
 use Rattle.key_table.specs.Table.{key_of, none_seen}
 use Rattle.key_table.specs.declared.parameters.Settled.{Settled}
@@ -9,8 +10,7 @@ use Rattle.login_book.specs.Book.{Phase, at_start, begun, LoginBook, fresh_book}
 use Rattle.login_book.specs.Login.{Answer, refused, answered, Outcome}
 use Rattle.login_types.specs.declared.state.State.{State}
 use Rattle.login_types.specs.declared.state.Step.{Step}
-use Rattle.login_types.specs.declared.state.Answer as A
-use Rattle.login_types.specs.declared.state.Answer.TheVariants as W
+use Rattle.login_types.specs.declared.state.Accepted.{Accepted}
 
 -- ---- the struct and the book
 
@@ -26,9 +26,9 @@ abbrev pub book_of : State → LoginBook
 book_of l = record { over = l.over; phase = phase_of l; judged = l.judged; keys = keys_of l.settled; gathered = l.gathered }
 
 -- what the code's answer says, of what the text output holds then
-abbrev pub answer_of : A.Answer → List ℕ → Answer
-answer_of (W.Refused f) t = refused (number f) (status f)
-answer_of (W.Accepted a) t = answered a.stage a.transit a.csg a.nsg a.tsih (take a.length t)
+abbrev pub answer_of : Result Accepted Refusal → List ℕ → Answer
+answer_of (Err f) t = refused (number f) (status f)
+answer_of (Ok a) t = answered a.stage a.transit a.csg a.nsg a.tsih (take a.length t)
 
 -- ---- a fresh login
 
@@ -46,9 +46,9 @@ abbrev pub ended_state : State → State
 ended_state l = record { over = true; begun = l.begun; judged = l.judged; stage = l.stage; isid = l.isid; tsih = l.tsih; cid = l.cid; gathered = l.gathered; settled = l.settled }
 
 -- A refusal leaves the very struct, also where it says nothing of the book; after an answer the book says all of it.
-abbrev pub Stays : A.Answer → State → State → Type 0
-Stays (W.Refused f) l m = m ≡ pick (eqb (number f) 6) (ended_state l) l
-Stays (W.Accepted a) l m = Unit {0}
+abbrev pub Stays : Result Accepted Refusal → State → State → Type 0
+Stays (Err f) l m = m ≡ pick (eqb (number f) 6) (ended_state l) l
+Stays (Ok a) l m = Unit {0}
 
 -- the contract of a request on the login l: the step r, with what the gather area and the text output hold after it, is the outcome o
 pub record Answers (l : State) (r : Step) (g t : List ℕ) (o : Outcome) : Type 0 where

@@ -34,17 +34,11 @@ pub struct Accepted {
     pub length: usize,
 }
 
-#[derive(Clone, Copy)]
-pub enum Answer {
-    Refused(Refusal),
-    Accepted(Accepted),
-}
-
 // The login after a request, and the answer.
 #[derive(Clone, Copy)]
 pub struct Step {
     pub state: State,
-    pub answer: Answer,
+    pub answer: Result<Accepted, Refusal>,
 }
 
 impl State {

@@ -3,7 +3,7 @@ ghost use Rattle.std.specs.Prelude.{◌≡◌, ◌≤◌, length};
 
 use field::{four, pair, put, six_two};
 use print::{find, past};
-use text_number::number::Number;
+use text_number::number::number_of;
 
 // The first eleven words of a line as numbers, 0 where a word is none, and where the rest begins.
 #[derive(Clone, Copy)]
@@ -12,24 +12,15 @@ pub(crate) struct Words {
     pub(crate) rest: usize,
 }
 
-fn number(s: &[u8]) -> u64 {
-    match text_number::number::number_of(s) {
-        Number::Value(v) => v,
-        Number::Bad => 0,
-    }
-}
-
 pub(crate) fn words_of(line: &[u8]) -> Words
     ensures { result.rest ≤ length line.now }
 {
     let mut n = [0u64; 11];
     let mut at = 0;
-    let mut i = 0;
-    while i < 11 {
+    for v in &mut n {
         let end = find(line, at, b' ');
-        n[i] = number(&line[at..end]);
+        *v = number_of(&line[at..end]).unwrap_or(0);
         at = past(line, end);
-        i += 1;
     }
     Words { n, rest: at }
 }
@@ -37,7 +28,7 @@ pub(crate) fn words_of(line: &[u8]) -> Words
 pub(crate) fn least(a: u64, b: usize) -> usize
     ensures { result ≤ b }
 {
-    if a < b as u64 { a as usize } else { b }
+    b.min(a as usize)
 }
 
 fn low(v: u64) -> u8 {
@@ -50,8 +41,7 @@ pub(crate) fn short(v: u64) -> u16 {
 
 // The first n bytes, or all where there are fewer.
 pub(crate) fn first(s: &[u8], n: u64) -> &[u8] {
-    let end = least(n, s.len());
-    &s[0..end]
+    &s[..least(n, s.len())]
 }
 
 // Opcode and flags, Version-min and the DataSegmentLength.
@@ -71,17 +61,11 @@ fn put_header(pdu: &mut [u8; 9000], n: [u64; 11], data: u16) {
 fn put_text(pdu: &mut [u8; 9000], s: &[u8]) -> u16
     ensures { result ≤ 8900 }
 {
-    let mut i: u16 = 0;
-    while i < 8900 {
-        let at = i as usize;
-        if at == s.len() {
-            return i;
-        }
-        let b = s[at];
-        pdu[48 + at] = if b == b'|' { 0 } else { b };
-        i += 1;
+    let n = s.len().min(8900);
+    for (to, b) in pdu[48..].iter_mut().zip(&s[..n]) {
+        *to = if *b == b'|' { 0 } else { *b };
     }
-    i
+    n as u16
 }
 
 // The PDU, and how many of its bytes are left where as many as the last word says are cut off.

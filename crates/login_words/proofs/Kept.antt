@@ -1,4 +1,5 @@
 -- A login is what its words say: the words that `store` writes load the same one. A refusal but 6 leaves the login.
+use Rattle.std.specs.Prelude.{Result, Ok, Err}
 use mathlib.Core.Path.{◌≡◌, refl, sym, ap, ◌∙◌}
 use mathlib.Core.Bool.{Bool, true, false, not, ◌&&◌}
 use mathlib.Core.List.{List}
@@ -16,10 +17,10 @@ use Rattle.login_book.specs.Book.{LoginBook}
 use Rattle.login_book.specs.Login.{Outcome}
 use Rattle.login_book.specs.Events.{Call, accepted, step_of}
 use Rattle.login_book.proofs.Promised.{promised}
-use Rattle.login_types.specs.Agree.{book_of, answer_of, ended_state, Stays}
+use Rattle.login_types.specs.Agree.{answer_of, ended_state, Stays}
 use Rattle.login_types.specs.declared.state.State.{State}
-use Rattle.login_types.specs.declared.state.Answer as A
-use Rattle.login_types.specs.declared.state.Answer.TheVariants as W
+use Rattle.login_types.specs.declared.state.Accepted.{Accepted}
+use Rattle.refusal.specs.declared.Refusal.{Refusal}
 
 flag-fits : (b : Bool) → ltb (flag_word b) 2 ≡ true
 flag-fits true = refl
@@ -52,16 +53,16 @@ left : (x : Bool) (l m : State) → m ≡ pick x (ended_state l) l → not x ≡
 left true l m s e = let z : ◌≡◌ {A = ℕ} 0 1 = cc in absurd (omega arith)
 left false l m s e = s
 
-pub unmoved : (a : A.Answer) (l m : State) → Stays a l m → changes_nothing a ≡ true → m ≡ l
-unmoved (W.Refused f) l m s e = left (eqb (number f) 6) l m s e
-unmoved (W.Accepted a) l m s e = let z : ◌≡◌ {A = ℕ} 0 1 = cc in absurd (omega arith)
+pub unmoved : (a : Result Accepted Refusal) (l m : State) → Stays a l m → changes_nothing a ≡ true → m ≡ l
+unmoved (Err f) l m s e = left (eqb (number f) 6) l m s e
+unmoved (Ok a) l m s e = let z : ◌≡◌ {A = ℕ} 0 1 = cc in absurd (omega arith)
 
-no_answer : (a : A.Answer) (t : List ℕ) → changes_nothing a ≡ true → accepted (answer_of a t) ≡ false
-no_answer (W.Refused f) t e = refl
-no_answer (W.Accepted a) t e = let z : ◌≡◌ {A = ℕ} 0 1 = cc in absurd (omega arith)
+no_answer : (a : Result Accepted Refusal) (t : List ℕ) → changes_nothing a ≡ true → accepted (answer_of a t) ≡ false
+no_answer (Err f) t e = refl
+no_answer (Ok a) t e = let z : ◌≡◌ {A = ℕ} 0 1 = cc in absurd (omega arith)
 
 -- a refusal leaves the gather area and the text output
-pub areas-left : (b m : LoginBook) (c : Call) (a : A.Answer) (g t : List ℕ)
+pub areas-left : (b m : LoginBook) (c : Call) (a : Result Accepted Refusal) (g t : List ℕ)
     → ◌≡◌ {A = Outcome} (record { book = m; answer = answer_of a t; gather = g; text = t }) (step_of b c)
     → changes_nothing a ≡ true → (g ≡ c.gather) × (t ≡ c.text)
 areas-left b m c a g t o e =

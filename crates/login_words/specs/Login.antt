@@ -1,13 +1,13 @@
 -- A login between requests, and its answer, as words.
-use Rattle.std.specs.Prelude.{ℕ, ◌^◌, ◌≡◌, Bool, true, false, not, ◌&&◌, List, [], ◌∷◌, eqb}
+use Rattle.std.specs.Prelude.{ℕ, ◌≡◌, Bool, true, false, not, ◌&&◌, List, [], ◌∷◌, eqb, Result, Ok, Err}
 use Rattle.field.specs.Field.{pick}
 use Rattle.refusal.specs.Refusal.{number, status}
+use Rattle.refusal.specs.declared.Refusal.{Refusal}
 use Rattle.words.specs.Words.{word, fits, is_set, flag_word}
 use Rattle.login_book.specs.Login.{Outcome}
 use Rattle.login_types.specs.Agree.{book_of, answer_of, Stays}
 use Rattle.login_types.specs.declared.state.State.{State}
-use Rattle.login_types.specs.declared.state.Answer as A
-use Rattle.login_types.specs.declared.state.Answer.TheVariants as W
+use Rattle.login_types.specs.declared.state.Accepted.{Accepted}
 
 -- ---- a login between requests
 
@@ -59,14 +59,14 @@ words_of l = login_words
 -- ---- a request
 
 -- the refusal's number or 0, its status, the stage, T, CSG, NSG, TSIH, and the length of the text
-abbrev pub login_answer_words : A.Answer → List ℕ
-login_answer_words (W.Refused f) = number f ∷ status f ∷ 0 ∷ 0 ∷ 0 ∷ 0 ∷ 0 ∷ 0 ∷ []
-login_answer_words (W.Accepted a) = 0 ∷ 0 ∷ a.stage ∷ flag_word a.transit ∷ a.csg ∷ a.nsg ∷ a.tsih ∷ a.length ∷ []
+abbrev pub login_answer_words : Result Accepted Refusal → List ℕ
+login_answer_words (Err f) = number f ∷ status f ∷ 0 ∷ 0 ∷ 0 ∷ 0 ∷ 0 ∷ 0 ∷ []
+login_answer_words (Ok a) = 0 ∷ 0 ∷ a.stage ∷ flag_word a.transit ∷ a.csg ∷ a.nsg ∷ a.tsih ∷ a.length ∷ []
 
 -- "A refusal .. changes nothing, but 6 ends that login."
-abbrev pub changes_nothing : A.Answer → Bool
-changes_nothing (W.Refused f) = not (eqb (number f) 6)
-changes_nothing (W.Accepted a) = false
+abbrev pub changes_nothing : Result Accepted Refusal → Bool
+changes_nothing (Err f) = not (eqb (number f) 6)
+changes_nothing (Ok a) = false
 
 -- the login's words stay, or all of them are those of the login after the request
 abbrev pub Kept : Bool → (l m : LoginWords) → Type 0
@@ -76,7 +76,7 @@ Kept false l m = m ≡ words_of (login_of m)
 -- The answer's words w, the login's words m, the gather area g' and the text output t' after a request on the words l and the areas g and t are
 -- those of its outcome.
 pub record LoginSaid (l : LoginWords) (g t : List ℕ) (o : Outcome) (w : List ℕ) (m : LoginWords) (g' t' : List ℕ) : Type 0 where
-  pub answer : A.Answer
+  pub answer : Result Accepted Refusal
   pub words : w ≡ login_answer_words answer
   pub outcome : ◌≡◌ {A = Outcome} (record { book = book_of (login_of m); answer = answer_of answer t'; gather = g'; text = t' }) o
   pub stays : Stays answer (login_of l) (login_of m)

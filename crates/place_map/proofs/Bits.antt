@@ -1,6 +1,6 @@
 -- Laws of a number's bits, as `bit_at` has them. By induction on the bit, with n / 2 and n % 2 for what is left and the lowest.
 use Prim.Native.Nat.{ℕ, zero, suc, ◌-◌, ◌/◌, ◌%◌, ◌^◌, ◌≤◌, ◌<◌, min, max}
-use mathlib.Core.Path.{◌≡◌, refl, sym, ap, ap₂, ◌∙◌, subst}
+use mathlib.Core.Path.{◌≡◌, refl, sym, ap, ap₂, ◌∙◌}
 use mathlib.Core.List.{List, [], ◌∷◌}
 use native.Mathlib.Nat.{div-one, pow-suc, lt_of_le_of_lt}
 use native.Mathlib.Numerals.{one-add}

@@ -9,6 +9,7 @@ ghost use Rattle.place_map.specs.Bit.{bits, bit_at, Gapless};
 const BITS: u32 = 64;
 
 // Bit d of a map.
+#[tactic(auto, unfolding(crate::specs::Bit::bit_at))]
 pub fn bit(map: u64, d: u32) -> u64
     requires { d < bits }
     ensures { result ≡ bit_at map d }
@@ -28,7 +29,7 @@ pub fn only(d: u32) -> u64
 pub fn gapless(held: u64) -> u32
     ensures { Gapless held result }
 {
-    u64::trailing_zeros(!held)
+    (!held).trailing_zeros()
 }
 
 // The map of the first g places.

@@ -8,8 +8,8 @@ ghost use Rattle.session_questions.specs.Answer.{next_answer, holder_answer};
 ghost use Rattle.answer_words.specs.Answer.{answer_words, packed};
 
 use answer_words::{DONE, FREE, HELD, OK, VOID, origin_word, pack, pack_refused};
-use request_header::LengthAnswer;
-use session_questions::{HolderAnswer, NextAnswer, WindowNumbers};
+use refusal::Refusal;
+use session_questions::{HolderAnswer, WindowNumbers};
 
 pub fn numbers(a: WindowNumbers) -> [u32; 4]
     ensures { result ≡ answer_words (Answer.told (Reply.numbers a.exp_cmd_sn a.max_cmd_sn)) }
@@ -17,12 +17,12 @@ pub fn numbers(a: WindowNumbers) -> [u32; 4]
     [DONE, a.exp_cmd_sn, a.max_cmd_sn, 0]
 }
 
-pub fn next(a: NextAnswer) -> u64
+pub fn next(a: Result<u32, Refusal>) -> u64
     ensures { packed result ≡ answer_words (next_answer a) }
 {
     match a {
-        NextAnswer::Refused(f) => pack_refused(f),
-        NextAnswer::Next(n) => pack(DONE, n),
+        Ok(n) => pack(DONE, n),
+        Err(f) => pack_refused(f),
     }
 }
 
@@ -37,11 +37,11 @@ pub fn holder(a: HolderAnswer) -> [u32; 4]
 }
 
 // A length goes with the number of no refusal.
-pub fn length(a: LengthAnswer) -> u64
+pub fn length(a: Result<u32, Refusal>) -> u64
     ensures { packed result ≡ answer_words (length_reply (length_answer_of a)) }
 {
     match a {
-        LengthAnswer::Refused(f) => pack_refused(f),
-        LengthAnswer::Whole(n) => pack(OK, n),
+        Ok(n) => pack(OK, n),
+        Err(f) => pack_refused(f),
     }
 }

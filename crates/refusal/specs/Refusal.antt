@@ -1,5 +1,5 @@
 -- The answer number of each refusal, and the status of a refused login.
-use Rattle.std.specs.Prelude.{ℕ}
+use Rattle.std.specs.Prelude.{ℕ, Result, Ok, Err}
 use Rattle.refusal.specs.declared.Refusal.{Refusal}
 use Rattle.refusal.specs.declared.Refusal.TheVariants as F
 
@@ -17,6 +17,11 @@ number F.Open = 9
 number F.Full = 10
 number F.Stale = 11
 number F.Snack = 12
+
+-- an answer's number: 0, or that of the refusal
+abbrev pub answer_number : {T : Type 0} → Result T Refusal → ℕ
+answer_number (Ok _) = 0
+answer_number (Err f) = number f
 
 -- "6 also the status"; 0 for every other
 abbrev pub status : Refusal → ℕ

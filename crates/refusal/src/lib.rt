@@ -4,7 +4,7 @@
 ghost use Rattle.std.specs.Prelude.{◌≡◌};
 ghost use Rattle.refusal.specs.Refusal.{number, status};
 
-#[derive(Clone, Copy)]
+#[derive(Clone, Copy, Debug, PartialEq, Eq)]
 pub enum Refusal {
     // A lent output is too short.
     Buffer,
@@ -58,16 +58,6 @@ pub fn status_of(refusal: Refusal) -> u16
 {
     match refusal {
         Refusal::Login(s) => s,
-        Refusal::Buffer => 0,
-        Refusal::Opcode => 0,
-        Refusal::Field => 0,
-        Refusal::Length => 0,
-        Refusal::TooLong => 0,
-        Refusal::NoConn => 0,
-        Refusal::Closed => 0,
-        Refusal::Open => 0,
-        Refusal::Full => 0,
-        Refusal::Stale => 0,
-        Refusal::Snack => 0,
+        _ => 0,
     }
 }

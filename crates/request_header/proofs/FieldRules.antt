@@ -3,9 +3,9 @@
 use mathlib.Core.Path.{◌≡◌, refl, sym, ap, ◌∙◌}
 use mathlib.Core.Bool.{Bool, true, false, not, ◌&&◌, ◌||◌}
 use mathlib.Core.List.{List}
-use Prim.Native.Nat.{ℕ, ◌%◌, ◌≤◌, ◌<◌}
+use Prim.Native.Nat.{ℕ, ◌%◌, ◌≤◌}
 use native.Mathlib.Omega.{arith}
-use borrow.Author.Tests.{ltb-false, not-false, eqb-true, eqb-false, lt-leb, lt-ltb, eq-eqb, ne_eqb}
+use borrow.Author.Tests.{ltb-false, not-false, eqb-true, eqb-false, lt-leb, eq-eqb, ne_eqb}
 use lib.Dec.{eqb, leb, ltb}
 use lib.ListN.{length}
 use Rattle.field.specs.Field.{be_at, byte, bit, pick, none}
@@ -58,6 +58,8 @@ module _ (m : Limits) (s : List ℕ) where
   pub snack-rules : fields_ok m 0x10 s ≡ (bit (byte s 1) 128 && eqb (byte s 4) 0) && snack_ok (byte s 1 % 16) (be_at s 16 4) (be_at s 20 4)
   unfolding fields_ok shared_ok rule_ok pdu_of request_of
   snack-rules = simp (or-false)
+
+pub ruleset kind_rules = (nop-out-rules, scsi-command-rules, task-management-rules, login-rules, data-out-rules, logout-rules, snack-rules)
 
 -- the refusals before FIELD, over their tests: what the answer is where none is given, and where one is
 none-given : (a b c d : Bool) (y : Answer) → ◌≡◌ {A = ℕ} (pick a 4 (pick b 2 (pick c 5 (pick d 4 0)))) 0

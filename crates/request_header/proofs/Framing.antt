@@ -1,17 +1,17 @@
 -- The whole length beside reading: a refusal of the length is reading's of the same bytes, bytes cut at the length are refused for no length, and
 -- no byte after the 48 is looked at. So a stream that is cut by `length_asked` is cut as `read_pdu` wants it.
-use Prim.Native.Nat.{ℕ, zero, suc, ◌+◌, ◌≤◌, ◌<◌}
-use mathlib.Core.Path.{◌≡◌, refl, sym, ap, ap₂, ◌∙◌}
+use Prim.Native.Nat.{ℕ, zero, suc, ◌+◌, ◌≤◌}
+use mathlib.Core.Path.{◌≡◌, refl, sym, ap, ◌∙◌}
 use mathlib.Core.List.{List}
 use mathlib.Core.Bool.{Bool, true, false, not}
 use native.Mathlib.Omega.{arith}
 use borrow.Author.Tests.{eq-eqb, ne_eqb, le-ltb}
-use lib.Dec.{eqb, ltb}
-use lib.ListN.{length, get_or, take}
+use lib.Dec.{ltb}
+use lib.ListN.{length, take}
 use lib.Seq.{get_or-take, length-take-le}
 use Rattle.field.specs.Field.{pick, be_at}
 use Rattle.request_header.specs.Request.{Answer, refused, read_pdu, judged, known, opcode_of, data_length_of, stated_length, pdu_of}
-use Rattle.request_header.specs.Request.{LengthAnswer, whole, unframed, length_asked}
+use Rattle.request_header.specs.Request.{whole, unframed, length_asked}
 use Rattle.request_header.specs.declared.Limits.{Limits}
 
 same_number : {a b : ℕ} → unframed a ≡ unframed b → a ≡ b

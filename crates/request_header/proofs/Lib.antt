@@ -1,3 +1,4 @@
 pub mod Reading
 pub mod FieldRules
 pub mod Framing
+pub mod Header

@@ -1,17 +1,16 @@
 -- What a read PDU says of the bytes it was read from: each refusal was passed over, and its fields are the bytes'.
 -- The layers above cite these laws and never open `read_pdu`.
-use mathlib.Core.Path.{◌≡◌, refl, sym, subst, ap, ◌∙◌}
+use mathlib.Core.Path.{◌≡◌, refl, sym, subst}
 use mathlib.Core.List.{List}
-use mathlib.Core.Bool.{Bool, true, false, ◌&&◌, ◌||◌}
-use Prim.Native.Nat.{ℕ, ◌+◌, ◌^◌, ◌<◌, ◌≤◌}
+use mathlib.Core.Bool.{Bool, true, false, ◌&&◌}
+use Prim.Native.Nat.{ℕ, ◌+◌, ◌≤◌}
 use native.Mathlib.Omega.{arith}
 use borrow.Author.Tests.{ltb-false, eqb-true, not-false}
-use lib.Dec.{eqb, lit<}
-use lib.ListN.{length, get_or, drop, length-drop}
+use lib.ListN.{length, drop, length-drop}
 use lib.Seq.{length-take-le}
 use Rattle.field.specs.Field.{pick}
 use Rattle.request_header.specs.Request.{read_pdu, judged, Answer, got, refused, known, opcode_of}
-use Rattle.request_header.specs.Request.{data_length_of, stated_length, shared_ok, rule_ok, pdu_of, request_of, data_of}
+use Rattle.request_header.specs.Request.{data_length_of, stated_length, shared_ok, rule_ok, pdu_of, data_of}
 use Rattle.request_header.specs.declared.Pdu.{Pdu}
 use Rattle.request_header.specs.declared.Limits.{Limits}
 

@@ -1,8 +1,9 @@
 -- Reading: where each request has its fields, the field rules, and the refusals in their order.
 -- The offsets are those of RFC 7143, sections 11.3, 11.5, 11.7, 11.12, 11.14, 11.16 and 11.18.
-use Rattle.std.specs.Prelude.{ℕ, ◌+◌, ◌*◌, ◌/◌, ◌%◌, Bool, true, false, not, ◌&&◌, ◌||◌, List, length, take, drop, eqb, leb, ltb}
+use Rattle.std.specs.Prelude.{ℕ, ◌+◌, ◌*◌, ◌/◌, ◌%◌, Bool, true, not, ◌&&◌, ◌||◌, List, length, take, drop, eqb, leb, ltb, Result, Ok, Err}
 use Rattle.field.specs.Field.{be_at, byte, bit, pick, none}
 use Rattle.refusal.specs.Refusal.{number}
+use Rattle.refusal.specs.declared.Refusal.{Refusal}
 use Rattle.request_header.specs.declared.NopOut.{NopOut}
 use Rattle.request_header.specs.declared.ScsiCommand.{ScsiCommand}
 use Rattle.request_header.specs.declared.TaskManagement.{TaskManagement}
@@ -14,10 +15,6 @@ use Rattle.request_header.specs.declared.Request.{Request}
 use Rattle.request_header.specs.declared.Request.TheVariants as R
 use Rattle.request_header.specs.declared.Pdu.{Pdu}
 use Rattle.request_header.specs.declared.Limits.{Limits}
-use Rattle.request_header.specs.declared.ReadAnswer.{ReadAnswer}
-use Rattle.request_header.specs.declared.ReadAnswer.TheVariants.{Got, Refused}
-use Rattle.request_header.specs.declared.LengthAnswer as Code
-use Rattle.request_header.specs.declared.LengthAnswer.TheVariants as L
 
 -- the limits in force: 8,192 bytes of data, and functions 1 to 8
 abbrev pub limits : Limits
@@ -170,9 +167,9 @@ pub data Answer : Type 0 where
   refused : ℕ → Answer
 
 -- what the reader's answer says: the PDU, or the refusal's number
-abbrev pub answer_of : ReadAnswer → Answer
-answer_of (Got p) = got p
-answer_of (Refused f) = refused (number f)
+abbrev pub answer_of : Result Pdu Refusal → Answer
+answer_of (Ok p) = got p
+answer_of (Err f) = refused (number f)
 
 -- FIELD where a field rule is broken, else the PDU
 unfoldable pub judged : Limits → ℕ → List ℕ → Pdu → Answer
@@ -194,9 +191,9 @@ pub data LengthAnswer : Type 0 where
   whole : ℕ → LengthAnswer
   unframed : ℕ → LengthAnswer
 
-abbrev pub length_answer_of : Code.LengthAnswer → LengthAnswer
-length_answer_of (L.Whole n) = whole n
-length_answer_of (L.Refused f) = unframed (number f)
+abbrev pub length_answer_of : Result ℕ Refusal → LengthAnswer
+length_answer_of (Ok n) = whole n
+length_answer_of (Err f) = unframed (number f)
 
 -- the refusals that reading would give before it looks at the length of the input: "input under 48 bytes is 4; then 2, 5"; else the whole
 -- length that the header states. Bytes after the 48 and the field rules play no part

@@ -1,6 +1,6 @@
 -- Reading as the code does it: in numbers, 0 for no refusal, and by the rules of one kind. This file follows the code, and who reviews the rules
 -- doesn't need it: these are in Request, and proofs/FieldRules ties what stands here to them.
-use Rattle.std.specs.Prelude.{ℕ, Bool, not, ◌&&◌, List, length, eqb, ltb}
+use Rattle.std.specs.Prelude.{ℕ, Bool, not, ◌&&◌, List, length, take, eqb, ltb, ◌≡◌}
 use Rattle.field.specs.Field.{pick}
 use Rattle.refusal.specs.declared.Refusal.{Refusal}
 use Rattle.refusal.specs.declared.Refusal.TheVariants as F
@@ -20,9 +20,19 @@ refusal_before_field m s =
     (pick (not (eqb (length s) (stated_length s))) 4
     0)))
 
+-- the header of an input that is refused for nothing before FIELD: its first 48 bytes
+pub record IsHeader (m : Limits) (s h : List ℕ) : Type 0 where
+  pub passed : refusal_before_field m s ≡ 0
+  pub first : h ≡ take 48 s
+
 -- the number of the first refusal of all, FIELD last; 0 for none
 unfoldable pub first_refusal : Limits → List ℕ → ℕ
 first_refusal m s = pick (eqb (refusal_before_field m s) 0) (pick (fields_ok m (opcode_of s) s) 0 3) (refusal_before_field m s)
+
+-- the header of a good PDU: its first 48 bytes
+pub record IsGoodHeader (m : Limits) (s h : List ℕ) : Type 0 where
+  pub good : first_refusal m s ≡ 0
+  pub first : h ≡ take 48 s
 
 -- the refusal of a number that reading answers: 2 is OPCODE, 3 FIELD, 4 LENGTH, 5 TOOLONG. It answers no other, and of any other it is TOOLONG
 unfoldable pub refusal_numbered : ℕ → Refusal

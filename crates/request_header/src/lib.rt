@@ -6,8 +6,6 @@ pub mod lengths;
 ghost use Rattle.std.specs.Prelude.{◌≡◌};
 ghost use Rattle.request_header.specs.Request.{limits};
 
-use refusal::Refusal;
-
 #[derive(Clone, Copy)]
 pub struct NopOut {
     pub target_transfer_tag: u32,
@@ -116,17 +114,4 @@ pub fn limits_in_force() -> Limits
     ensures { result ≡ limits }
 {
     LIMITS
-}
-
-#[derive(Clone, Copy)]
-pub enum ReadAnswer {
-    Got(Pdu),
-    Refused(Refusal),
-}
-
-// The whole length of a PDU, or why its first bytes don't tell.
-#[derive(Clone, Copy)]
-pub enum LengthAnswer {
-    Whole(u32),
-    Refused(Refusal),
 }

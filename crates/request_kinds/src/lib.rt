@@ -1,7 +1,7 @@
 // The fields of each kind of request, by its opcode.
 #![tactic(auto)]
 
-ghost use Rattle.std.specs.Prelude.{◌≡◌, ◌||◌, ◌≤◌, length, eqb};
+ghost use Rattle.std.specs.Prelude.{◌≡◌, ◌||◌, eqb, ◌≤◌, length};
 ghost use Rattle.field.specs.Field.{be_at, pick};
 ghost use Rattle.request_header.specs.Request.{nop_out_of, scsi_command_of, task_management_of, login_of, logout_of, request_of};
 
@@ -76,6 +76,7 @@ fn logout(s: &[u8]) -> Logout
 }
 
 // The request of an opcode.
+#[tactic(auto, unfolding(request_header::specs::Request::request_of))]
 pub fn request(s: &[u8], op: u8) -> Request
     requires { 48 ≤ length s.now }
     ensures { result ≡ request_of op s.now }

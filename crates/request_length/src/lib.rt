@@ -6,24 +6,24 @@ ghost use Rattle.request_header.specs.Request.{length_answer_of, length_asked};
 
 use field::HEADER_BYTES;
 use refusal::Refusal;
+use request_header::Limits;
 use request_header::lengths::{data_length, data_start};
-use request_header::{LengthAnswer, Limits};
 use request_refusal::is_known;
 
 // The whole length of the PDU that begins with these bytes: LENGTH under 48 of them, OPCODE, TOOLONG. Later bytes aren't looked at.
-pub fn whole_length(input: &[u8], limits: Limits) -> LengthAnswer
+pub fn whole_length(input: &[u8], limits: Limits) -> Result<u32, Refusal>
     ensures { length_answer_of result ≡ length_asked limits input.now }
 {
-    if input.len() < HEADER_BYTES {
-        return LengthAnswer::Refused(Refusal::Length);
+    let Some(header) = input.first_chunk::<HEADER_BYTES>() else {
+        return Err(Refusal::Length);
+    };
+    if !is_known(header[0] % 64) {
+        return Err(Refusal::Opcode);
     }
-    if !is_known(input[0] % 64) {
-        return LengthAnswer::Refused(Refusal::Opcode);
-    }
-    let data = data_length(input);
+    let data = data_length(header);
     if (limits.data_segment as usize) < data {
-        return LengthAnswer::Refused(Refusal::TooLong);
+        return Err(Refusal::TooLong);
     }
-    let whole = data_start(input) + (data + 3) / 4 * 4;
-    LengthAnswer::Whole(whole as u32)
+    let whole = data_start(header) + (data + 3) / 4 * 4;
+    Ok(whole as u32)
 }

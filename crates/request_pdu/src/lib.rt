@@ -1,19 +1,18 @@
 // A request PDU read whole, and its data segment.
 #![tactic(auto)]
 
-ghost use Rattle.std.specs.Prelude.{◌≡◌, ◌≤◌, length};
+ghost use Rattle.std.specs.Prelude.{◌≡◌};
 ghost use Rattle.request_header.specs.Request.{answer_of, read_pdu, pdu_of, data_of};
 
-use field::{be32, flag};
+use field::{HEADER_BYTES, be32, flag};
+use refusal::Refusal;
 use request_header::lengths::{data_length, data_start};
-use request_header::{Limits, Pdu, ReadAnswer};
+use request_header::{Limits, Pdu};
 use request_kinds::{lun, request};
-use request_refusal::refusal_of;
 use request_unnumbered::cmd_sn;
-use request_verdict::first_refusal;
+use request_verdict::good_header;
 
-fn pdu(s: &[u8], op: u8) -> Pdu
-    requires { 48 ≤ length s.now }
+fn pdu(s: &[u8; HEADER_BYTES], op: u8) -> Pdu
     ensures { result ≡ pdu_of op s.now }
 {
     let r = request(s, op);
@@ -30,16 +29,12 @@ fn pdu(s: &[u8], op: u8) -> Pdu
 }
 
 // The PDU that the input is, or the first refusal.
-pub fn read(input: &[u8], limits: Limits) -> ReadAnswer
+pub fn read(input: &[u8], limits: Limits) -> Result<Pdu, Refusal>
     ensures { answer_of result ≡ read_pdu limits input.now }
 {
-    let number = first_refusal(input, limits);
-    if number != 0 {
-        return ReadAnswer::Refused(refusal_of(number));
-    }
-    let op = input[0] % 64;
-    let p = pdu(input, op);
-    ReadAnswer::Got(p)
+    let header = good_header(input, limits)?;
+    let op = header[0] % 64;
+    Ok(pdu(header, op))
 }
 
 // The data segment of a PDU that was read from this input: a part of it, without pad.

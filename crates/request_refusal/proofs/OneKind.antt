@@ -1,6 +1,6 @@
 -- What reading says past the refusals before FIELD, to one who reads one kind only: F is what is made of the answer, and of another kind it makes what
 -- it makes of FIELD. So only the rules of that kind are looked at: another is FIELD whether it meets its own or not.
-use mathlib.Core.Path.{◌≡◌, refl, sym}
+use mathlib.Core.Path.{◌≡◌, refl, sym, ap, ◌∙◌}
 use mathlib.Core.Bool.{Bool, true, false, not, ◌||◌}
 use mathlib.Core.List.{List}
 use Prim.Native.Nat.{ℕ}
@@ -14,8 +14,9 @@ use Rattle.request_header.specs.declared.Request.TheVariants as Q
 use Rattle.request_header.specs.Kind.{if_data_out, if_snack}
 use Rattle.request_header.specs.Request.{Answer, read_pdu, got, refused, known, opcode_of, request_of, pdu_of}
 use Rattle.request_header.specs.Request.{nop_out_of, scsi_command_of, task_management_of, login_of, data_out_of, logout_of, snack_of}
-use Rattle.request_header.specs.Verdicts.{fields_ok, refusal_before_field}
+use Rattle.request_header.specs.Verdicts.{IsHeader, fields_ok}
 use Rattle.request_header.proofs.FieldRules.{known-last, known_past, rules-past}
+use Rattle.request_header.proofs.Header.{header-opcode, header-fields-ok}
 
 module _ {A : Type 0} (F : Answer → A) (m : Limits) (s : List ℕ) (op : ℕ) where
   by-rules : {r : Bool} → r ≡ fields_ok m op s → read_pdu m s ≡ pick (fields_ok m op s) (got (pdu_of op s)) (refused 3) → (b : Bool) → r ≡ b
@@ -29,18 +30,25 @@ module _ {A : Type 0} (F : Answer → A) (m : Limits) (s : List ℕ) (op : ℕ) 
   other-by o true e h g = rw (g, e) (sym h)
   other-by o false e h g = rw (g, e)
 
-  module _ {n : ℕ} (b : n ≡ refusal_before_field m s) (z : n ≡ 0) {r : Bool} (e : r ≡ fields_ok m op s) where
+  -- by the header
+  module _ {h : List ℕ} (i : IsHeader m s h) {r : Bool} (e : r ≡ fields_ok m op h) where
+    of-input : {t : Bool} → eqb (opcode_of h) op ≡ t → eqb (opcode_of s) op ≡ t
+    of-input f = sym (ap (λ o. eqb o op) (header-opcode s i.first)) ∙ f
+
+    ruled : read_pdu m s ≡ pick (fields_ok m (opcode_of s) s) (got (pdu_of (opcode_of s) s)) (refused 3)
+    ruled = rules-past m s (sym i.passed) refl
+
     -- FIELD for another kind, and for this one where it breaks a rule
     pub denied : ((o : ℕ) → known o ≡ true → (o ≡ op → ⊥) → F (got (pdu_of o s)) ≡ F (refused 3))
-        → (t : Bool) → eqb (opcode_of s) op ≡ t → (not t || not r) ≡ true
+        → (t : Bool) → eqb (opcode_of h) op ≡ t → (not t || not r) ≡ true
         → F (refused 3) ≡ F (read_pdu m s)
-    denied k false f h = other-by (opcode_of s) _ refl (k (opcode_of s) (known_past m s b z) (eqb-false (opcode_of s) op f)) (rules-past m s b z)
-    denied k true f h = by-rules e (rw (eqb-true (opcode_of s) op f) at (rules-past m s b z)) false (not-true _ h)
+    denied k false f g = other-by (opcode_of s) _ refl (k (opcode_of s) (known_past m s (sym i.passed) refl) (eqb-false (opcode_of s) op (of-input f))) ruled
+    denied k true f g = by-rules (e ∙ header-fields-ok s i.first m op) (rw (eqb-true (opcode_of s) op (of-input f)) at ruled) false (not-true _ g)
 
     -- a PDU of this kind that keeps its rules
-    pub granted : (t : Bool) → eqb (opcode_of s) op ≡ t → (not t || not r) ≡ false → F (got (pdu_of op s)) ≡ F (read_pdu m s)
-    granted false f h = cc
-    granted true f h = by-rules e (rw (eqb-true (opcode_of s) op f) at (rules-past m s b z)) true (not-false _ h)
+    pub granted : (t : Bool) → eqb (opcode_of h) op ≡ t → (not t || not r) ≡ false → F (got (pdu_of op s)) ≡ F (read_pdu m s)
+    granted false f g = cc
+    granted true f g = by-rules (e ∙ header-fields-ok s i.first m op) (rw (eqb-true (opcode_of s) op (of-input f)) at ruled) true (not-false _ g)
 
 module _ (s : List ℕ) {A : Type 0} (d : A) where
   data-out-by : (f : DataOut → A) (a b c e g : Bool)

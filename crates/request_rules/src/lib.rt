@@ -1,8 +1,8 @@
 // The field rules of the requests, over the bytes of a header. Each breach is FIELD. Each kind has its rules whole, so that who reads one
 // kind looks at no other.
-#![tactic(auto)]
+#![tactic(auto, using(request_header::proofs::FieldRules::kind_rules))]
 
-ghost use Rattle.std.specs.Prelude.{◌≡◌, ◌||◌, ◌&&◌, ◌≤◌, ◌%◌, length, leb, eqb};
+ghost use Rattle.std.specs.Prelude.{◌≡◌, ◌||◌, ◌&&◌, ◌%◌, leb, eqb, ◌≤◌, length};
 ghost use Rattle.field.specs.Field.{byte, bit};
 ghost use Rattle.request_header.specs.declared.Limits.{Limits};
 ghost use Rattle.request_header.specs.Request.{snack_ok};

@@ -1,7 +1,7 @@
 // The fields of the two kinds of request that bear no CmdSN, Data-Out and SNACK, and the CmdSN of the others.
 #![tactic(auto)]
 
-ghost use Rattle.std.specs.Prelude.{◌≡◌, ◌||◌, ◌≤◌, length, eqb};
+ghost use Rattle.std.specs.Prelude.{◌≡◌, ◌||◌, eqb, ◌≤◌, length};
 ghost use Rattle.field.specs.Field.{be_at, pick};
 ghost use Rattle.request_header.specs.Request.{data_out_of, snack_of};
 

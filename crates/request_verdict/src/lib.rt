@@ -1,19 +1,22 @@
-// The first refusal of a request PDU by its bytes, with FIELD, as a number.
+// The first refusal of a request PDU by its bytes, with FIELD.
 #![tactic(auto)]
 
-ghost use Rattle.std.specs.Prelude.{◌≡◌, true, ◌≤◌, length};
+ghost use Rattle.std.specs.Prelude.{◌≡◌, true, IfOk, IfErr};
+ghost use Rattle.refusal.specs.Refusal.{number};
 ghost use Rattle.request_header.specs.Request.{known, opcode_of};
-ghost use Rattle.request_header.specs.Verdicts.{fields_ok, first_refusal};
+ghost use Rattle.request_header.specs.Verdicts.{IsGoodHeader, fields_ok, first_refusal};
 
+use field::HEADER_BYTES;
+use refusal::Refusal;
 use request_header::Limits;
-use request_refusal::refusal_before_field;
+use request_refusal::header_of;
 use request_rules::{
     data_out_ok, login_ok, logout_ok, nop_out_ok, scsi_command_ok, snack_ok, task_management_ok,
 };
 
 // The rules of the kind that the opcode names.
-fn fields_ok(s: &[u8], limits: Limits) -> bool
-    requires { (48 ≤ length s.now) × (known (opcode_of s.now) ≡ true) }
+fn fields_ok(s: &[u8; HEADER_BYTES], limits: Limits) -> bool
+    requires { known (opcode_of s.now) ≡ true }
     ensures { result ≡ fields_ok limits (opcode_of s.now) s.now }
 {
     let op = s[0] % 64;
@@ -28,13 +31,15 @@ fn fields_ok(s: &[u8], limits: Limits) -> bool
     }
 }
 
-// The number of the first refusal, FIELD last; 0 for a good PDU.
-pub fn first_refusal(input: &[u8], limits: Limits) -> u8
-    ensures { result ≡ first_refusal limits input.now }
+// The header of a good PDU, or the first refusal, FIELD last.
+pub fn good_header(input: &[u8], limits: Limits) -> Result<&[u8; HEADER_BYTES], Refusal>
+    ensures header { IfOk result (λ h. IsGoodHeader limits input.now h.now) }
+    ensures refusal { IfErr result (λ f. number f ≡ first_refusal limits input.now) }
 {
-    let f = refusal_before_field(input, limits);
-    if f != 0 {
-        return f;
+    let header = header_of(input, limits)?;
+    if fields_ok(header, limits) {
+        Ok(header)
+    } else {
+        Err(Refusal::Field)
     }
-    if fields_ok(input, limits) { 0 } else { 3 }
 }

@@ -10,7 +10,8 @@ use native.Mathlib.Omega.{arith}
 use Rattle.field.specs.Field.{pick, be_at, byte}
 use Rattle.request_header.specs.declared.Limits.{Limits}
 use Rattle.request_header.specs.Request.{read_pdu, pdu_of, request_of, opcode_of}
-use Rattle.request_header.specs.Verdicts.{fields_ok, refusal_before_field}
+use Rattle.request_header.specs.Verdicts.{IsHeader, fields_ok, refusal_before_field}
+use Rattle.request_header.proofs.Header.{first-opcode, first-pdu, first-fields-ok}
 use Rattle.request_header.proofs.FieldRules.{refused-before, rules-past}
 use Rattle.request_words.specs.RequestWords.{ReadWords, read_words, kind_words, common_words, own_words}
 
@@ -42,12 +43,14 @@ module _ (m : Limits) (op : ℕ) (s : List ℕ) (c o : List ℕ) where
   unfolding kind_words read_words pdu_of
   kind-read r e f cs os x y = rw (← e, f, x, y)
 
-module _ (m : Limits) (s : List ℕ) (c o : List ℕ) {n : ℕ} (f : n ≡ refusal_before_field m s) where
+module _ (m : Limits) (s : List ℕ) (c o : List ℕ) where
   -- past the refusals before FIELD, the kind decides
-  pub kind-decides : {op : ℕ} {x : ReadWords} → n ≡ 0 → opcode_of s ≡ op → x ≡ kind_words m op s c o → x ≡ read_words (read_pdu m s) c o
+  pub kind-decides : {h : List ℕ} → IsHeader m s h → {op : ℕ} {x : ReadWords} → opcode_of h ≡ op → x ≡ kind_words m op h c o → x ≡ read_words (read_pdu m s) c o
   unfolding kind_words
-  kind-decides e g h = rw (rules-past m s f e, g) h
+  kind-decides {h} i {op} g e =
+      let same : opcode_of s ≡ op = sym (ap opcode_of i.first ∙ first-opcode s) ∙ g in
+      rw (rules-past m s (sym i.passed) refl, same) (e ∙ rw (i.first, first-fields-ok s m op, first-pdu s op))
 
-  pub refused-words : (n ≡ 0 → ⊥) → record { answer = n; common = c; own = o } ≡ read_words (read_pdu m s) c o
+  pub refused-words : {n : ℕ} → n ≡ refusal_before_field m s → (n ≡ 0 → ⊥) → record { answer = n; common = c; own = o } ≡ read_words (read_pdu m s) c o
   unfolding read_words
-  refused-words e = rw (refused-before m s f e)
+  refused-words f e = rw (refused-before m s f e)

@@ -1,7 +1,8 @@
 // Requests as words: what all kinds share, and the two that bear no CmdSN, Data-Out and SNACK, judged and written from the bytes of a header.
+// Refusals stay numbers here: they are what the C interface answers (3 is FIELD).
 #![tactic(auto)]
 
-ghost use Rattle.std.specs.Prelude.{◌≡◌, [], ◌∷◌, ◌≤◌, ◌<◌, length};
+ghost use Rattle.std.specs.Prelude.{◌≡◌, [], ◌∷◌, ◌<◌, ◌≤◌, length};
 ghost use Rattle.field.specs.Field.{be_at, byte, bit};
 ghost use Rattle.request_header.specs.declared.Limits.{Limits};
 ghost use Rattle.request_header.specs.Request.{data_start_of, data_length_of};

@@ -6,11 +6,13 @@ ghost use Rattle.response_words.specs.ResponseWords.{response_of};
 
 use data_from_words::{data_in, nop_in, r2t, reject};
 use login_from_words::{login_response, logout_response};
-use response_words::FromWords;
+use response_header::Response;
+use response_words::Unfit;
 use status_from_words::{scsi_response, task_management_response};
 
 // The response that the words are, or that they are none: an opcode that no response has, or a word too wide for its field.
-pub fn response(w: &[u64; 10]) -> FromWords
+#[tactic(auto, unfolding(response_words::specs::ResponseWords::response_of))]
+pub fn response(w: &[u64; 10]) -> Result<Response, Unfit>
     ensures { result ≡ response_of w.now }
 {
     let opcode = w[0];
@@ -23,6 +25,6 @@ pub fn response(w: &[u64; 10]) -> FromWords
         0x26 => logout_response(w),
         0x31 => r2t(w),
         0x3f => reject(w),
-        _ => FromWords::Unfit(0),
+        _ => Err(Unfit { stated: 0 }),
     }
 }

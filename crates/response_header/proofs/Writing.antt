@@ -1,14 +1,13 @@
 -- What the layers above may know of a written header, so that they never open its definition.
-use mathlib.Core.Path.{◌≡◌, refl, sym, ap, ◌∙◌}
+use mathlib.Core.Path.{◌≡◌, refl, ◌∙◌}
 use mathlib.Core.List.{List, [], ◌∷◌}
 use Prim.Native.Nat.{ℕ}
-use lib.ListN.{length, get_or, replicate, length-replicate}
+use lib.ListN.{length, replicate, length-replicate}
 use lib.Seq.{sets, length-sets}
 use Rattle.field.specs.Field.{bytes_of}
 use Rattle.response_header.specs.Response.{Field, place, kind_fields, numbers_fields, header_bytes}
 use Rattle.response_header.specs.declared.Numbers.{Numbers}
 use Rattle.response_header.specs.declared.Response.{Response}
-use Rattle.response_header.specs.declared.Response.TheVariants as R
 
 length-place : (fs : List Field) (l : List ℕ) → length (place fs l) ≡ length l
 length-place [] l = refl

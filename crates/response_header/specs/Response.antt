@@ -1,9 +1,10 @@
 -- Writing: where each response has its fields, and when a response is refused. What becomes of the lent bytes is in response_writer/specs/Writing.
 -- The offsets are those of RFC 7143, sections 11.4, 11.6, 11.7, 11.8, 11.13, 11.15, 11.17 and 11.19.
-use Rattle.std.specs.Prelude.{ℕ, ◌+◌, ◌*◌, Bool, true, false, not, ◌&&◌, ◌||◌, List, [], ◌∷◌, replicate, eqb, ltb}
+use Rattle.std.specs.Prelude.{ℕ, ◌+◌, ◌*◌, Bool, true, not, ◌&&◌, ◌||◌, List, [], ◌∷◌, replicate, eqb, ltb, Result, ⊤}
 use Rattle.std.proofs.lemmas.List.Edits.{sets}
-use Rattle.field.specs.Field.{bytes_of, pick, none}
-use Rattle.refusal.specs.Refusal.{number}
+use Rattle.field.specs.Field.{bytes_of, pick}
+use Rattle.refusal.specs.Refusal.{answer_number}
+use Rattle.refusal.specs.declared.Refusal.{Refusal}
 use Rattle.response_header.specs.declared.NopIn.{NopIn}
 use Rattle.response_header.specs.declared.ScsiResponse.{ScsiResponse}
 use Rattle.response_header.specs.declared.TaskManagementResponse.{TaskManagementResponse}
@@ -15,8 +16,6 @@ use Rattle.response_header.specs.declared.Reject.{Reject}
 use Rattle.response_header.specs.declared.Numbers.{Numbers}
 use Rattle.response_header.specs.declared.Response.{Response}
 use Rattle.response_header.specs.declared.Response.TheVariants as R
-use Rattle.response_header.specs.declared.Judgement.{Judgement}
-use Rattle.response_header.specs.declared.Judgement.TheVariants as J
 
 -- the longest data segment that a response may state
 abbrev pub max_data_length : ℕ
@@ -189,6 +188,5 @@ unfoldable pub refusal_in : ℕ → Response → ℕ
 refusal_in max r = pick (is_too_long max (data_length_in r)) 5 (pick (fields_fit r) 0 3)
 
 -- what a judgement says: 0, or the refusal's number
-abbrev pub judgement_number : Judgement → ℕ
-judgement_number J.Fits = 0
-judgement_number (J.Refused f) = number f
+abbrev pub judgement_number : Result ⊤ Refusal → ℕ
+judgement_number r = answer_number r

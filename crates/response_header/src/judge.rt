@@ -2,7 +2,7 @@
 ghost use Rattle.std.specs.Prelude.{◌≡◌};
 ghost use Rattle.response_header.specs.Response.{data_length_in, fields_fit, is_too_long, refusal_in, judgement_number};
 
-use crate::{Judgement, Response};
+use crate::Response;
 use refusal::Refusal;
 
 // The data length that a response states.
@@ -12,12 +12,11 @@ fn data_length_in(r: Response) -> u32
     match r {
         Response::NopIn(x) => x.data_segment_length,
         Response::ScsiResponse(x) => x.data_segment_length,
-        Response::TaskManagementResponse(_) => 0,
         Response::LoginResponse(x) => x.data_segment_length,
         Response::DataIn(x) => x.data_segment_length,
-        Response::LogoutResponse(_) => 0,
-        Response::R2t(_) => 0,
         Response::Reject(_) => 48,
+        // The others have no data.
+        _ => 0,
     }
 }
 
@@ -26,16 +25,11 @@ fn fields_fit(r: Response) -> bool
     ensures { result ≡ fields_fit r }
 {
     match r {
-        Response::NopIn(_) => true,
         Response::ScsiResponse(x) => !(x.overflow & x.underflow),
-        Response::TaskManagementResponse(_) => true,
         Response::LoginResponse(x) => {
             (x.csg < 4) & (x.nsg < 4) & (x.isid < 0x1_0000_0000_0000) & (x.transit | (x.nsg == 0))
         }
-        Response::DataIn(_) => true,
-        Response::LogoutResponse(_) => true,
-        Response::R2t(_) => true,
-        Response::Reject(_) => true,
+        _ => true,
     }
 }
 
@@ -47,15 +41,16 @@ pub fn too_long(data_length: u64, max_data: u32) -> bool
 }
 
 // Whether a response can be written: TOOLONG by its data length, then FIELD.
-pub fn judge(r: Response, max_data: u32) -> Judgement
+#[tactic(auto, unfolding(crate::specs::Response::refusal_in))]
+pub fn judge(r: Response, max_data: u32) -> Result<(), Refusal>
     ensures { judgement_number result ≡ refusal_in max_data r }
 {
     if too_long(data_length_in(r) as u64, max_data) {
-        return Judgement::Refused(Refusal::TooLong);
+        return Err(Refusal::TooLong);
     }
     if fields_fit(r) {
-        Judgement::Fits
+        Ok(())
     } else {
-        Judgement::Refused(Refusal::Field)
+        Err(Refusal::Field)
     }
 }

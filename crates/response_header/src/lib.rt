@@ -6,8 +6,6 @@ pub mod judge;
 ghost use Rattle.std.specs.Prelude.{◌≡◌};
 ghost use Rattle.response_header.specs.Response.{max_data_length};
 
-use refusal::Refusal;
-
 #[derive(Clone, Copy)]
 pub struct NopIn {
     pub data_segment_length: u32,
@@ -113,11 +111,4 @@ pub fn max_data_in_force() -> u32
     ensures { result ≡ max_data_length }
 {
     MAX_DATA
-}
-
-// A response by itself: whether it can be written.
-#[derive(Clone, Copy)]
-pub enum Judgement {
-    Fits,
-    Refused(Refusal),
 }

@@ -1,21 +1,19 @@
 -- Writing into lent bytes: the answer, and what the bytes are then.
-use Rattle.std.specs.Prelude.{ℕ, List, ◌++◌, length, drop, eqb, ltb}
+use Rattle.std.specs.Prelude.{ℕ, List, ◌++◌, length, drop, eqb, ltb, Result, ⊤}
 use Rattle.field.specs.Field.{pick}
-use Rattle.refusal.specs.Refusal.{number}
+use Rattle.refusal.specs.Refusal.{answer_number}
+use Rattle.refusal.specs.declared.Refusal.{Refusal}
 use Rattle.response_header.specs.declared.Numbers.{Numbers}
 use Rattle.response_header.specs.declared.Response.{Response}
 use Rattle.response_header.specs.Response.{header_bytes, refusal_in}
-use Rattle.response_writer.specs.declared.WriteAnswer.{WriteAnswer}
-use Rattle.response_writer.specs.declared.WriteAnswer.TheVariants as W
 
 -- the answer, 0 for a header that was written, else the refusal's number; and what the lent bytes are then
 pub record Outcome : Type 0 where
   pub answer : ℕ
   pub bytes : List ℕ
 
-abbrev pub answered : WriteAnswer → ℕ
-answered W.Written = 0
-answered (W.Refused f) = number f
+abbrev pub answered : Result ⊤ Refusal → ℕ
+answered r = answer_number r
 
 -- BUFFER first; then the response's own refusal, which leaves every byte; else the header in the first 48 bytes, and later bytes stay
 unfoldable pub writing : ℕ → List ℕ → Response → Numbers → Outcome

@@ -11,14 +11,8 @@ use field::{HEADER_BYTES, pair, put};
 use refusal::Refusal;
 use response_fields::own_fields;
 use response_header::judge::judge;
-use response_header::{Judgement, Numbers, Response};
+use response_header::{Numbers, Response};
 use response_layout::OwnFields;
-
-#[derive(Clone, Copy)]
-pub enum WriteAnswer {
-    Written,
-    Refused(Refusal),
-}
 
 // The StatSN that stands in a header: the next one, or 0 in Data-In, which has none.
 fn stat_sn_in(has_stat_sn: bool, stat_sn: u32) -> u32
@@ -44,18 +38,14 @@ pub fn place(out: &mut [u8], at: usize, o: OwnFields, n: Numbers)
 }
 
 // Writes the header into the first 48 bytes of out, or refuses: BUFFER, TOOLONG, FIELD.
-pub fn write(out: &mut [u8], r: Response, n: Numbers, max_data: u32) -> WriteAnswer
+pub fn write(out: &mut [u8], r: Response, n: Numbers, max_data: u32) -> Result<(), Refusal>
     ensures { ◌≡◌ {A = Outcome} (record { answer = answered result; bytes = out.new }) (writing max_data out.old r n) }
 {
     if out.len() < HEADER_BYTES {
-        return WriteAnswer::Refused(Refusal::Buffer);
+        return Err(Refusal::Buffer);
     }
-    match judge(r, max_data) {
-        Judgement::Refused(f) => WriteAnswer::Refused(f),
-        Judgement::Fits => {
-            let o = own_fields(r);
-            place(out, 0, o, n);
-            WriteAnswer::Written
-        }
-    }
+    judge(r, max_data)?;
+    let o = own_fields(r);
+    place(out, 0, o, n);
+    Ok(())
 }

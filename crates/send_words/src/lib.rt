@@ -14,13 +14,13 @@ ghost use Rattle.call_words.specs.Session.{session_words, Said, SaidUnfit, sends
 
 use answer_words::DONE;
 use field::HEADER_BYTES;
+use ledger::Sent;
 use refusal::Refusal;
 use response_from_words::response;
 use response_header::{MAX_DATA, Response};
-use response_words::{FromWords, unfit_refusal};
+use response_words::unfit_refusal;
 use session_changes::store_ledger;
-use session_send::SendAnswer;
-use session_state::{Reached, reach};
+use session_state::reach;
 use session_words::load;
 use task::Task;
 
@@ -43,9 +43,9 @@ fn send_known(
 {
     let s = load(n, m);
     match session_send::send(s, conn, ticket, r, t, out, statuses, status_tickets) {
-        SendAnswer::Refused(f) => answer_words::pack_refused(f),
-        SendAnswer::Sent(stat_sn) => answer_words::pack(DONE, stat_sn),
-        SendAnswer::Stored { stat_sn, ledger } => {
+        Err(f) => answer_words::pack_refused(f),
+        Ok(Sent::NotStored(stat_sn)) => answer_words::pack(DONE, stat_sn),
+        Ok(Sent::Stored { stat_sn, ledger }) => {
             store_ledger(n, conn, ledger);
             answer_words::pack(DONE, stat_sn)
         }
@@ -65,9 +65,8 @@ fn send_unfit(n: &[u32; 15], m: &[u64; 6], conn: u32, stated: u64, lent: usize) 
     }
     let s = load(n, m);
     match reach(s, conn) {
-        Reached::NoConn => answer_words::pack_refused(Refusal::NoConn),
-        Reached::Closed => answer_words::pack_refused(Refusal::Closed),
-        Reached::Open(_) => answer_words::pack_refused(unfit_refusal(stated, MAX_DATA)),
+        Ok(_) => answer_words::pack_refused(unfit_refusal(stated, MAX_DATA)),
+        Err(refusal) => answer_words::pack_refused(refusal),
     }
 }
 
@@ -91,10 +90,10 @@ pub fn send(
         (session_words n.new m.new k (statuses_in statuses.new status_tickets.new)) }
 {
     match response(words) {
-        FromWords::Response(r) => {
+        Ok(r) => {
             let t = task_words::load(task, wide);
             send_known(n, m, statuses, status_tickets, t, conn, ticket, r, out)
         }
-        FromWords::Unfit(stated) => send_unfit(n, m, conn, stated, out.len()),
+        Err(u) => send_unfit(n, m, conn, u.stated, out.len()),
     }
 }

@@ -21,11 +21,10 @@ use Rattle.book.specs.Tasks.{OnTask}
 use Rattle.book.specs.Demand.{Demand3}
 use Rattle.book.proofs.Sentences.{demand3-booked}
 use Rattle.book.proofs.Tasks.{tasks-booked}
-use Rattle.session_state.specs.After.{after_window}
 use Rattle.session_state.specs.Transfer.{transferred}
 use Rattle.session_state.specs.Agree.{State, state, Did}
 use Rattle.session_state.specs.History.{Ran, Booked, history, Each, Stayed, stayed}
-use Rattle.session_commands.specs.Answer.{offer_answer, take_answer}
+use Rattle.session_commands.specs.Answer.{offer_answer, after_offer, take_answer, after_take}
 use Rattle.session_connections.specs.Answer.{open_answer, logout_answer}
 use Rattle.session_connections.specs.After.{after_open, after_logout}
 use Rattle.session_send.specs.Answer.{send_answer, after_send}
@@ -89,8 +88,8 @@ pub record ByOffer (d : Done) : Type 1 where
   pub statuses : Statuses
   pub is : d ≡ done (offer a.1.0 a.1.1.0 a.1.1.1.0.now)
       (state a.0 (WA.commands a.1.1.1.1.0.now a.1.1.1.1.1.0.now) statuses)
-      (offer_answer r.answer) (no_outputs)
-      (state (after_window a.0 r.window) (WA.commands s.1.1.1.1.0.now s.1.1.1.1.1.0.now) statuses)
+      (offer_answer r) (no_outputs)
+      (state (after_offer a.0 r) (WA.commands s.1.1.1.1.0.now s.1.1.1.1.1.0.now) statuses)
 
 -- A call of `take`: a are its arguments, r its result, s its parameters at exit.
 pub record ByTake (d : Done) : Type 1 where
@@ -102,8 +101,8 @@ pub record ByTake (d : Done) : Type 1 where
   pub statuses : Statuses
   pub is : d ≡ done (take (outputs a.1.1.1.0.now))
       (state a.0 (WA.commands a.1.0.now a.1.1.0.now) statuses)
-      (take_answer r.answer) (outputs s.1.1.1.0.now)
-      (state (after_window a.0 r.window) (WA.commands a.1.0.now a.1.1.0.now) statuses)
+      (take_answer r) (outputs s.1.1.1.0.now)
+      (state (after_take a.0 r) (WA.commands a.1.0.now a.1.1.0.now) statuses)
 
 -- A call of `logout`: a are its arguments, r its result, s its parameters at exit.
 pub record ByLogout (d : Done) : Type 1 where
@@ -116,7 +115,7 @@ pub record ByLogout (d : Done) : Type 1 where
   pub statuses : Statuses
   pub is : d ≡ done (logout a.1.0 a.1.1.0)
       (state a.0 commands statuses)
-      (logout_answer r.answer) (no_outputs)
+      (logout_answer r) (no_outputs)
       (state (after_logout a.0 a.1.0 r) commands statuses)
 
 -- A call of `open_connection`: a are its arguments, r its result, s its parameters at exit.

@@ -8,7 +8,7 @@ ghost use Rattle.session.specs.Fresh.{fresh_state};
 use book::Given;
 use ledger::{LEDGER_BYTES, LEDGER_SLOTS, Ledger};
 use session_state::{Conn, Session};
-use window::{WINDOW_BYTES, WINDOW_SLOTS};
+use window::{FreshWindow, WINDOW_BYTES, WINDOW_SLOTS};
 
 // A fresh session with its arrays.
 #[derive(Clone, Copy)]
@@ -24,29 +24,28 @@ pub struct FreshSession {
 pub fn fresh(given: Given) -> FreshSession
     ensures { IsFresh given (fresh_state result) }
 {
-    let opening = given.opening;
-    let w = window::fresh(given.first);
-    let window = w.window;
-    let headers = w.headers;
-    let tickets = w.tickets;
+    let FreshWindow {
+        window,
+        headers,
+        tickets,
+    } = window::fresh(given.first);
     let open = Conn {
         is_open: true,
-        ledger: ledger::opened(opening.stat_sn),
+        ledger: ledger::opened(given.opening.stat_sn),
     };
     let closed = Conn {
         is_open: false,
         ledger: Ledger { next: 0, held: 0 },
     };
-    let session = Session {
-        level: given.level as u32,
-        window: window,
-        conns: [open, closed, closed, closed],
-    };
     FreshSession {
-        session: session,
-        headers: headers,
-        tickets: tickets,
-        statuses: [0u8; LEDGER_BYTES],
-        status_tickets: [0u32; LEDGER_SLOTS],
+        session: Session {
+            level: u32::from(given.level),
+            window,
+            conns: [open, closed, closed, closed],
+        },
+        headers,
+        tickets,
+        statuses: [0; LEDGER_BYTES],
+        status_tickets: [0; LEDGER_SLOTS],
     }
 }

@@ -19,7 +19,7 @@ use Rattle.session_state.specs.After.{conn_at, after_window, after_conns, after_
 use Rattle.session_connections.specs.declared.Closes.TheVariants as C
 use Rattle.session_connections.specs.After.{all_shut, one_shut, closing}
 use Rattle.session_words.specs.State.{session_of, window_maps}
-use Rattle.session_changes.specs.Changes.{window_numbers}
+use Rattle.session_changes.specs.Changes.{conn_place, window_numbers}
 
 abbrev from : Window → List ℕ → Window
 from w o = record { next = w.next; handed = w.handed; held = w.held; voided = w.voided; origins = o }
@@ -73,13 +73,16 @@ ledger-kept c n m l hn h =
     go (suc (suc (suc zero))) x = refl
     go (suc (suc (suc (suc j)))) x = absurd (omega arith)
 
--- closed connections
+-- the connections below a number, closed
+abbrev pub shut_below : ℕ → List ℕ → List ℕ
+shut_below zero n = n
+shut_below (suc c) n = set (shut_below c n) (conn_place c) 0
+
 pub all_closed : (c : ℕ) (n m : List ℕ) → length n ≡ 15
-    → session_of (set (set (set (set n 3 0) 6 0) 9 0) 12 0) m ≡ after_conns (session_of n m) (closing C.Session c (session_of n m).conns)
+    → session_of (shut_below 4 n) m ≡ after_conns (session_of n m) (closing C.Session c (session_of n m).conns)
 unfolding session_of all_shut words_of
 all_closed c n m hn =
-    subst (λ (l : List ℕ). session_of (set (set (set (set l 3 0) 6 0) 9 0) 12 0) m ≡ after_conns (session_of l m) (closing C.Session c (session_of l m).conns))
-    (spread 15 n hn) refl
+    subst (λ (l : List ℕ). session_of (shut_below 4 l) m ≡ after_conns (session_of l m) (closing C.Session c (session_of l m).conns)) (spread 15 n hn) refl
 
 pub own-closed : (c : ℕ) (n m : List ℕ) → length n ≡ 15 → c < 4
     → session_of (set n (3 + 3 * c) 0) m ≡ after_conns (session_of n m) (closing C.Connection c (session_of n m).conns)

@@ -1,17 +1,26 @@
 // What a call changes of a session's words: what is new is written, every other word stays.
 #![tactic(auto)]
 
-ghost use Rattle.std.specs.Prelude.{◌≡◌, List, ℕ, length};
+ghost use Rattle.std.specs.Prelude.{◌≡◌, ◌<◌, List, ℕ, length};
+ghost use Rattle.book.specs.Book.{connections};
 ghost use Rattle.session_state.specs.After.{after_window, after_conns, after_conn, after_ledger};
 ghost use Rattle.session_connections.specs.After.{closing};
 ghost use Rattle.session_words.specs.State.{session_of, window_maps};
-ghost use Rattle.session_changes.specs.Changes.{window_numbers, ledger_numbers, conn_numbers, shut_numbers};
+ghost use Rattle.session_changes.specs.Changes.{conn_place, window_numbers, ledger_numbers, conn_numbers, shut_numbers};
 
 use ledger::Ledger;
 use session_connections::Closes;
 use session_state::Conn;
-use session_words::open_word;
+use session_words::{maps_of, open_word};
 use window::{CONNECTIONS, Window};
+
+// Where a connection has its three numbers.
+fn conn_place(conn: u32) -> usize
+    requires { conn < connections }
+    ensures { result ≡ conn_place conn }
+{
+    3 + 3 * (conn as usize)
+}
 
 // Keeps a window.
 pub fn store_window(n: &mut [u32], m: &mut [u64; 6], w: Window)
@@ -19,10 +28,9 @@ pub fn store_window(n: &mut [u32], m: &mut [u64; 6], w: Window)
     ensures { (n.new ≡ window_numbers w n.old) × (m.new ≡ window_maps w)
         × (session_of n.new m.new ≡ after_window (session_of n.old m.old) w) }
 {
-    let own = w.origins;
     n[1] = w.next;
     n[2] = w.handed;
-    *m = [w.held, w.voided, own[0], own[1], own[2], own[3]];
+    *m = maps_of(w);
 }
 
 // Keeps the connection of a number.
@@ -32,11 +40,8 @@ pub fn store_conn(n: &mut [u32], conn: u32, k: Conn)
         × ((m : List ℕ) → session_of n.new m ≡ after_conn (session_of n.old m) conn k) }
 {
     if conn < CONNECTIONS {
-        let place = 3 + 3 * (conn as usize);
-        let own = k.ledger;
-        n[place] = open_word(k);
-        n[place + 1] = own.next;
-        n[place + 2] = own.held;
+        n[conn_place(conn)] = open_word(k);
+        store_ledger(n, conn, k.ledger);
     }
 }
 
@@ -47,7 +52,7 @@ pub fn store_ledger(n: &mut [u32], conn: u32, l: Ledger)
         × ((m : List ℕ) → session_of n.new m ≡ after_ledger (session_of n.old m) conn l) }
 {
     if conn < CONNECTIONS {
-        let at = 3 + 3 * (conn as usize);
+        let at = conn_place(conn);
         n[at + 1] = l.next;
         n[at + 2] = l.held;
     }
@@ -61,14 +66,13 @@ pub fn close(n: &mut [u32], conn: u32, k: Closes)
 {
     match k {
         Closes::Session => {
-            n[3] = 0;
-            n[6] = 0;
-            n[9] = 0;
-            n[12] = 0;
+            for c in 0..CONNECTIONS {
+                n[conn_place(c)] = 0;
+            }
         }
         Closes::Connection => {
             if conn < CONNECTIONS {
-                n[3 + 3 * (conn as usize)] = 0;
+                n[conn_place(conn)] = 0;
             }
         }
     }

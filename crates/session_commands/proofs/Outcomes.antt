@@ -1,17 +1,20 @@
 -- The book's step at an offer and at a take, by its outcome.
-use Prim.Native.Nat.{ℕ, ◌≤◌, ◌<◌}
+use Prim.Native.Nat.{ℕ, ◌≤◌}
 use mathlib.Core.Path.{◌≡◌, refl, ◌∙◌}
 use mathlib.Core.List.{List}
 use native.Mathlib.Omega.{arith}
 use lib.ListN as ListN
 use lib.ListN.{length}
 use Rattle.request_header.specs.declared.Limits.{Limits}
-use Rattle.request_header.specs.Request.{read_pdu}
+use Rattle.request_header.specs.Request.{limits, read_pdu}
 use Rattle.request_header.specs.Request as Read
 use Rattle.request_header.proofs.Reading.{got-long}
 use Rattle.window.specs.Book as W
-use Rattle.book.specs.Book.{Offered, denied, at_once, numbered, offered_as, OpenConnection, live, Book, Outputs, no_outputs, Call, offer, take, Choice, refused, immediate, step, conn_of, by_window, on_connection, lending, offer_by, book_step}
-use Rattle.session_state.proofs.Steps.{reach-open}
+use Rattle.ledger.specs.declared.Ledger.{Ledger}
+use Rattle.book.specs.Book.{Offered, denied, at_once, numbered, offered_as, Book, Outputs, no_outputs, offer, take, Choice, refused, immediate, step, by_window, on_connection, lending, offer_by, book_step}
+use Rattle.session_state.specs.Reach.{IsOpen}
+use Rattle.session_state.specs.Agree.{State, Agrees}
+use Rattle.session_state.proofs.Steps.{reach-open, open_at}
 
 pub offer-eq : (b : Book) (c t : ℕ) (p : List ℕ) (x : Choice)
     → book_step b (offer c t p) x ≡ on_connection b c no_outputs (λ k. offer_by b c t p (offered_as (read_pdu k.limits p)))
@@ -22,10 +25,12 @@ pub take-eq : (b : Book) (o : Outputs) (x : Choice) → book_step b (take o) x �
 unfolding book_step
 take-eq b o x = refl
 
-pub offer-live : (b : Book) (c t : ℕ) (p : List ℕ) (k : OpenConnection) (m : Limits) (y : Offered) (x : Choice) → c < 4 → conn_of b c ≡ live k → k.limits ≡ m
-    → y ≡ offered_as (read_pdu m p) → book_step b (offer c t p) x ≡ offer_by b c t p y
+pub offer-open : (s : State) (b : Book) (c t : ℕ) (p : List ℕ) (l : Ledger) (y : Offered) (x : Choice) → Agrees s b → IsOpen s.session c l
+    → y ≡ offered_as (read_pdu limits p) → book_step b (offer c t p) x ≡ offer_by b c t p y
 unfolding book_step
-offer-live b c t p k m y x l e em h = reach-open b c no_outputs (λ q. offer_by b c t p (offered_as (read_pdu q.limits p))) k l e ∙ rw (em, ← h)
+offer-open s b c t p l y x g i h =
+    let v = open_at s b c l g i in
+    reach-open b c no_outputs (λ q. offer_by b c t p (offered_as (read_pdu q.limits p))) v.book v.near v.is ∙ rw (v.agrees.limits, ← h)
 
 pub offer-refused : (b : Book) (c t n : ℕ) (p : List ℕ) → offer_by b c t p (denied n) ≡ step (refused n) no_outputs b
 unfolding offer_by

@@ -2,63 +2,40 @@
 // its caller: they refuse. What they give back of the session is its window; `session_state::after_window` puts it in its place.
 #![tactic(auto)]
 
-ghost use Rattle.std.specs.Prelude.{◌≡◌, ◌&&◌, ◌≤◌, length};
+ghost use Rattle.std.specs.Prelude.{◌≡◌, ◌&&◌};
 ghost use Rattle.request_header.specs.Request.{read_pdu, request_of};
 ghost use Rattle.request_header.specs.Verdicts.{fields_ok};
 ghost use Rattle.window.specs.Agree.{commands};
 ghost use Rattle.ledger.specs.Agree.{Statuses};
 ghost use Rattle.book.specs.Book.{Call, outputs, no_outputs, is_offered, offered_as};
 ghost use Rattle.session_state.specs.Agree.{Did, state};
-ghost use Rattle.session_state.specs.After.{after_window};
-ghost use Rattle.session_commands.specs.Answer.{offered_of, offer_answer, take_answer};
+ghost use Rattle.session_commands.specs.Answer.{offered_of, offer_answer, take_answer, after_offer, after_take};
 
 use field::{be32, flag};
 use refusal::Refusal;
 use request_header::Limits;
-use request_refusal::{refusal_before_field, refusal_of};
+use request_refusal::header_of;
 use request_rules::{logout_ok, nop_out_ok, scsi_command_ok, task_management_ok};
-use session_state::{Reached, Session, limits_of, reach};
+use session_state::{Session, limits_of, reach};
 use store::HEADER_BYTES;
-use window::{Taken, WINDOW_BYTES, WINDOW_SLOTS, Window};
+use window::{WINDOW_BYTES, WINDOW_SLOTS, Window};
+use window_take::TakeStep;
 
-// What an offered PDU is.
+// What becomes of an offered PDU that is not refused: an immediate command is the caller's, a numbered one the window's.
 #[derive(Clone, Copy)]
 pub enum Offered {
-    Refused(Refusal),
-    Immediate,
-    Numbered(u32),
-}
-
-#[derive(Clone, Copy)]
-pub enum OfferAnswer {
-    Refused(Refusal),
     Immediate,
     Numbered(window::Offered),
 }
 
-// With the window after it; of a refusal it is as it was.
 #[derive(Clone, Copy)]
 pub struct OfferStep {
-    pub answer: OfferAnswer,
-    pub window: Window,
-}
-
-#[derive(Clone, Copy)]
-pub enum TakeAnswer {
-    Refused(Refusal),
-    Taken(Taken),
-}
-
-// With the window after it; of a refusal it is as it was.
-#[derive(Clone, Copy)]
-pub struct TakeStep {
-    pub answer: TakeAnswer,
+    pub answer: Offered,
     pub window: Window,
 }
 
 // Whether a header is of a kind that is offered and meets its rules; another kind is FIELD either way.
-fn is_offered(s: &[u8], op: u8, limits: Limits) -> bool
-    requires { 48 ≤ length s.now }
+fn is_offered(s: &[u8; HEADER_BYTES], op: u8, limits: Limits) -> bool
     ensures { result ≡ fields_ok limits op s.now && is_offered (request_of op s.now) }
 {
     match op {
@@ -70,23 +47,20 @@ fn is_offered(s: &[u8], op: u8, limits: Limits) -> bool
     }
 }
 
-// Reads an offered PDU: reading's refusals, FIELD for another kind, immediate where I is set, else numbered. Of its fields only these are
+// Reads an offered PDU: its CmdSN, or none where I is set. Reading's refusals, FIELD for another kind. Of its fields only these are
 // taken from the bytes.
-fn read_offer(pdu: &[u8], limits: Limits) -> Offered
+fn read_offer(pdu: &[u8], limits: Limits) -> Result<Option<u32>, Refusal>
     ensures { offered_of result ≡ offered_as (read_pdu limits pdu.now) }
 {
-    let f = refusal_before_field(pdu, limits);
-    if f != 0 {
-        return Offered::Refused(refusal_of(f));
-    }
-    let first = pdu[0];
-    if !is_offered(pdu, first % 64, limits) {
-        return Offered::Refused(Refusal::Field);
+    let header = header_of(pdu, limits)?;
+    let first = header[0];
+    if !is_offered(header, first % 64, limits) {
+        return Err(Refusal::Field);
     }
     if flag(first, 64) {
-        Offered::Immediate
+        Ok(None)
     } else {
-        Offered::Numbered(be32(pdu, 24))
+        Ok(Some(be32(header, 24)))
     }
 }
 
@@ -98,42 +72,25 @@ pub fn offer(
     pdu: &[u8],
     headers: &mut [u8; WINDOW_BYTES],
     tickets: &mut [u32; WINDOW_SLOTS],
-) -> OfferStep
+) -> Result<OfferStep, Refusal>
     ensures { (ss : Statuses)
         → Did (Call.offer conn ticket pdu.now)
-        (state s (commands headers.old tickets.old) ss) (offer_answer result.answer) no_outputs
-        (state (after_window s result.window) (commands headers.new tickets.new) ss) }
+        (state s (commands headers.old tickets.old) ss) (offer_answer result) no_outputs
+        (state (after_offer s result) (commands headers.new tickets.new) ss) }
 {
     let w = s.window;
-    match reach(s, conn) {
-        Reached::NoConn => OfferStep {
-            answer: OfferAnswer::Refused(Refusal::NoConn),
+    let _ = reach(s, conn)?;
+    let Some(n) = read_offer(pdu, limits_of(s, conn))? else {
+        return Ok(OfferStep {
+            answer: Offered::Immediate,
             window: w,
-        },
-        Reached::Closed => OfferStep {
-            answer: OfferAnswer::Refused(Refusal::Closed),
-            window: w,
-        },
-        Reached::Open(_) => match read_offer(pdu, limits_of(s, conn)) {
-            Offered::Refused(f) => OfferStep {
-                answer: OfferAnswer::Refused(f),
-                window: w,
-            },
-            Offered::Immediate => OfferStep {
-                answer: OfferAnswer::Immediate,
-                window: w,
-            },
-            Offered::Numbered(n) => {
-                let step = window_offer::offer(w, n, ticket, conn, pdu, headers, tickets);
-                let answer = step.answer;
-                let window = step.window;
-                OfferStep {
-                    answer: OfferAnswer::Numbered(answer),
-                    window: window,
-                }
-            }
-        },
-    }
+        });
+    };
+    let step = window_offer::offer(w, n, ticket, conn, pdu, headers, tickets);
+    Ok(OfferStep {
+        answer: Offered::Numbered(step.answer),
+        window: step.window,
+    })
 }
 
 // Takes the next command, its header into the first 48 bytes of out. BUFFER.
@@ -142,24 +99,14 @@ pub fn take(
     headers: &[u8; WINDOW_BYTES],
     tickets: &[u32; WINDOW_SLOTS],
     out: &mut [u8],
-) -> TakeStep
+) -> Result<TakeStep, Refusal>
     ensures { (ss : Statuses)
         → Did (Call.take (outputs out.old))
-        (state s (commands headers.now tickets.now) ss) (take_answer result.answer) (outputs out.new)
-        (state (after_window s result.window) (commands headers.now tickets.now) ss) }
+        (state s (commands headers.now tickets.now) ss) (take_answer result) (outputs out.new)
+        (state (after_take s result) (commands headers.now tickets.now) ss) }
 {
-    let w = s.window;
     if out.len() < HEADER_BYTES {
-        return TakeStep {
-            answer: TakeAnswer::Refused(Refusal::Buffer),
-            window: w,
-        };
+        return Err(Refusal::Buffer);
     }
-    let step = window_take::take(w, headers, tickets, out);
-    let answer = step.answer;
-    let window = step.window;
-    TakeStep {
-        answer: TakeAnswer::Taken(answer),
-        window: window,
-    }
+    Ok(window_take::take(s.window, headers, tickets, out))
 }

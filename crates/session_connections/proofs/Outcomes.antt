@@ -6,18 +6,21 @@ use mathlib.Core.List.{List}
 use native.Mathlib.Omega.{arith}
 use native.Mathlib.Decide.{ℕ_discrete}
 use borrow.Author.Tests.{lt-ltb, le-ltb, le-leb, lt-leb, eq-eqb, ne_eqb}
-use lib.Dec.{ltb}
-use lib.ListN.{length, get_or, set, length-set}
+use lib.ListN.{length, get_or, length-set}
 use lib.Seq.{get_or-set_same, get_or-set_other}
-use Rattle.field.specs.Field.{pick}
+use Rattle.refusal.specs.declared.Refusal.{Refusal}
+use Rattle.refusal.specs.declared.Refusal.TheVariants as F
+use Rattle.refusal.specs.Refusal.{number}
 use Rattle.window.specs.Book as W
 use Rattle.window.specs.Agree as WA
 use Rattle.window.specs.declared.Window.{Window}
 use Rattle.book.specs.declared.Opening.{Opening}
-use Rattle.book.specs.Book.{OpenConnection, opened_by, Connection, closed, live, Book, no_outputs, logout, opening, Choice, refused, opened, Step, step, conn_of, with_conn, on_connection, conns_left, logged_out, logout_by, open_at, book_step}
+use Rattle.book.specs.Book.{OpenConnection, opened_by, closed, live, Book, no_outputs, logout, opening, Choice, refused, opened, step, conn_of, with_conn, on_connection, conns_left, logged_out, logout_by, open_at, book_step}
 use Rattle.book.proofs.Small.{all_closed}
 use Rattle.session_state.specs.declared.Conn.{Conn}
+use Rattle.session_state.specs.declared.Session.{Session}
 use Rattle.session_state.specs.After.{no_conn, conn_at, after_window, after_conns}
+use Rattle.session_state.specs.Reach.{Unreached}
 use Rattle.session_state.specs.Agree.{State, state, ConnAgrees, Agrees}
 use Rattle.session_connections.specs.declared.Closes.{Closes}
 use Rattle.session_connections.specs.declared.Closes.TheVariants as C
@@ -26,9 +29,15 @@ use Rattle.session_connections.specs.After.{Closing, shut, all_shut, one_shut, c
 -- ---- an opening
 
 module _ (b : Book) (c : ℕ) (g : Opening) (x : Choice) where
-  pub open_none : 4 ≤ c → book_step b (opening c g) x ≡ step (refused 7) no_outputs b
+  open_none : 4 ≤ c → book_step b (opening c g) x ≡ step (refused 7) no_outputs b
   unfolding book_step
   open_none l = rw (le-ltb c 4 l)
+
+  -- no connection of that number, the one reason why none is reached that isn't its being closed
+  pub open-refused : (s : Session) (f : Refusal) → Unreached s c f → (f ≡ F.Closed → ⊥) → book_step b (opening c g) x ≡ step (refused (number f)) no_outputs b
+  open-refused s F.NoConn u n = open_none u
+  open-refused s F.Closed u n = absurd (n refl)
+  open-refused s f u n = absurd u
 
   pub open-live : (k : OpenConnection) → c < 4 → conn_of b c ≡ live k → book_step b (opening c g) x ≡ step (refused 9) no_outputs b
   unfolding book_step open_at

@@ -1,21 +1,18 @@
 -- The session after an opening and after a logout.
-use Rattle.std.specs.Prelude.{ℕ, ◌<◌, ◌≡◌, false, List, [], ◌∷◌, ltb, length, get_or, set}
+use Rattle.std.specs.Prelude.{ℕ, ◌<◌, ◌≡◌, false, List, [], ◌∷◌, Result, Ok, Err, ltb, length, get_or, set}
 use Rattle.field.specs.Field.{pick}
+use Rattle.refusal.specs.declared.Refusal.{Refusal}
 use Rattle.book.specs.Book.{connections}
 use Rattle.session_state.specs.declared.Conn.{Conn}
 use Rattle.session_state.specs.declared.Session.{Session}
 use Rattle.session_state.specs.After.{no_conn, after_window, after_conns, after_conn}
-use Rattle.session_connections.specs.declared.OpenAnswer.{OpenAnswer}
-use Rattle.session_connections.specs.declared.OpenAnswer.TheVariants as OpenA
 use Rattle.session_connections.specs.declared.Closes.{Closes}
 use Rattle.session_connections.specs.declared.Closes.TheVariants as C
-use Rattle.session_connections.specs.declared.LogoutAnswer.{LogoutAnswer}
-use Rattle.session_connections.specs.declared.LogoutAnswer.TheVariants as LogoutA
-use Rattle.session_connections.specs.declared.LogoutStep.{LogoutStep}
+use Rattle.session_connections.specs.declared.LoggedOut.{LoggedOut}
 
-abbrev pub after_open : Session → ℕ → OpenAnswer → Session
-after_open s c (OpenA.Refused f) = s
-after_open s c (OpenA.Opened k) = after_conn s c k
+abbrev pub after_open : Session → ℕ → Result Conn Refusal → Session
+after_open s c (Err f) = s
+after_open s c (Ok k) = after_conn s c k
 
 -- A connection that is closed.
 abbrev pub shut : Conn → Conn
@@ -31,12 +28,9 @@ abbrev pub closing : Closes → ℕ → List Conn → List Conn
 closing C.Session c k = all_shut k
 closing C.Connection c k = one_shut c k
 
-abbrev pub conns_after : LogoutAnswer → ℕ → List Conn → List Conn
-conns_after (LogoutA.Refused f) c k = k
-conns_after (LogoutA.LoggedOut e v x) c k = closing x c k
-
-abbrev pub after_logout : Session → ℕ → LogoutStep → Session
-after_logout s c r = after_conns (after_window s r.window) (conns_after r.answer c s.conns)
+abbrev pub after_logout : Session → ℕ → Result LoggedOut Refusal → Session
+after_logout s c (Err f) = s
+after_logout s c (Ok l) = after_conns (after_window s l.window) (closing l.closes c s.conns)
 
 -- What a logout with reason r closes.
 abbrev pub Closing : ℕ → Closes → Type 0

@@ -8,19 +8,12 @@ ghost use Rattle.ledger.specs.Agree.{Statuses};
 ghost use Rattle.book.specs.Book.{Call, no_outputs};
 ghost use Rattle.session_state.specs.Agree.{Did, state};
 ghost use Rattle.session_connections.specs.Answer.{open_answer, logout_answer};
-ghost use Rattle.session_connections.specs.After.{Closing, closing, all_shut, one_shut, after_open, after_logout};
+ghost use Rattle.session_connections.specs.After.{Closing, shut, closing, all_shut, one_shut, after_open, after_logout};
 
 use book::Opening;
 use refusal::Refusal;
-use session_state::{Conn, Reached, Session, reach};
+use session_state::{Conn, Session, after_window, reach};
 use window::{CONNECTIONS, CONNS, Window};
-
-#[derive(Clone, Copy)]
-pub enum OpenAnswer {
-    Refused(Refusal),
-    // With the connection.
-    Opened(Conn),
-}
 
 // What a logout closes: every connection of the session, or its own.
 #[derive(Clone, Copy)]
@@ -29,35 +22,29 @@ pub enum Closes {
     Connection,
 }
 
+// What a logout empties, voids and closes, with the window after it.
 #[derive(Clone, Copy)]
-pub enum LogoutAnswer {
-    Refused(Refusal),
-    LoggedOut {
-        emptied: u32,
-        voided: u32,
-        closes: Closes,
-    },
-}
-
-// With the window after it; of a refusal it is as it was.
-#[derive(Clone, Copy)]
-pub struct LogoutStep {
-    pub answer: LogoutAnswer,
+pub struct LoggedOut {
+    pub emptied: u32,
+    pub voided: u32,
+    pub closes: Closes,
     pub window: Window,
 }
 
 // Opens a connection with what it is given, its ledger empty. NOCONN, then OPEN.
-pub fn open_connection(s: Session, conn: u32, given: Opening) -> OpenAnswer
+pub fn open_connection(s: Session, conn: u32, given: Opening) -> Result<Conn, Refusal>
     ensures { (k : Commands) (ss : Statuses)
         → Did (Call.opening conn given) (state s k ss) (open_answer result) no_outputs (state (after_open s conn result) k ss) }
 {
-    match reach(s, conn) {
-        Reached::NoConn => OpenAnswer::Refused(Refusal::NoConn),
-        Reached::Open(_) => OpenAnswer::Refused(Refusal::Open),
-        Reached::Closed => OpenAnswer::Opened(Conn {
+    let Err(f) = reach(s, conn) else {
+        return Err(Refusal::Open);
+    };
+    match f {
+        Refusal::Closed => Ok(Conn {
             is_open: true,
             ledger: ledger::opened(given.stat_sn),
         }),
+        _ => Err(f),
     }
 }
 
@@ -74,86 +61,48 @@ fn closed_by(reason: u8) -> Closes
 
 // The effect of a logout on an open connection, with what it emptied and newly voided. NOCONN, CLOSED, then FIELD for a
 // reason above 2.
-pub fn logout(s: Session, conn: u32, reason: u8) -> LogoutStep
+pub fn logout(s: Session, conn: u32, reason: u8) -> Result<LoggedOut, Refusal>
     ensures { (k : Commands) (ss : Statuses)
-        → Did (Call.logout conn reason) (state s k ss) (logout_answer result.answer) no_outputs (state (after_logout s conn result) k ss) }
+        → Did (Call.logout conn reason) (state s k ss) (logout_answer result) no_outputs (state (after_logout s conn result) k ss) }
 {
-    let w = s.window;
-    match reach(s, conn) {
-        Reached::NoConn => LogoutStep {
-            answer: LogoutAnswer::Refused(Refusal::NoConn),
-            window: w,
-        },
-        Reached::Closed => LogoutStep {
-            answer: LogoutAnswer::Refused(Refusal::Closed),
-            window: w,
-        },
-        Reached::Open(_) => {
-            if 2 < reason {
-                return LogoutStep {
-                    answer: LogoutAnswer::Refused(Refusal::Field),
-                    window: w,
-                };
-            }
-            let step = window_logout::logout(w, conn, reason);
-            let window = step.window;
-            LogoutStep {
-                answer: LogoutAnswer::LoggedOut {
-                    emptied: step.emptied,
-                    voided: step.voided,
-                    closes: closed_by(reason),
-                },
-                window: window,
-            }
-        }
+    reach(s, conn)?;
+    if 2 < reason {
+        return Err(Refusal::Field);
+    }
+    let step = window_logout::logout(s.window, conn, reason);
+    Ok(LoggedOut {
+        emptied: step.emptied,
+        voided: step.voided,
+        closes: closed_by(reason),
+        window: step.window,
+    })
+}
+
+// A connection, closed; of its ledger nothing counts any more.
+fn shut(k: Conn) -> Conn
+    ensures { result ≡ shut k }
+{
+    Conn {
+        is_open: false,
+        ..k
     }
 }
 
-// The connections, all closed; of their ledgers nothing counts any more.
+// The connections, all closed.
 fn all_shut(k: [Conn; CONNS]) -> [Conn; CONNS]
     ensures { result ≡ all_shut k }
 {
-    let k0 = k[0];
-    let k1 = k[1];
-    let k2 = k[2];
-    let k3 = k[3];
-    let l0 = k0.ledger;
-    let l1 = k1.ledger;
-    let l2 = k2.ledger;
-    let l3 = k3.ledger;
-    [
-        Conn {
-            is_open: false,
-            ledger: l0,
-        },
-        Conn {
-            is_open: false,
-            ledger: l1,
-        },
-        Conn {
-            is_open: false,
-            ledger: l2,
-        },
-        Conn {
-            is_open: false,
-            ledger: l3,
-        },
-    ]
+    k.map(shut)
 }
 
 // The connections, that of a number closed.
+#[tactic(auto, unfolding(crate::specs::After::one_shut))]
 fn one_shut(conn: u32, k: [Conn; CONNS]) -> [Conn; CONNS]
     ensures { result ≡ one_shut conn k }
 {
     let mut conns = k;
     if conn < CONNECTIONS {
-        let c = conn as usize;
-        let own = conns[c];
-        let l = own.ledger;
-        conns[c] = Conn {
-            is_open: false,
-            ledger: l,
-        };
+        conns[conn as usize].is_open = false;
     }
     conns
 }
@@ -168,26 +117,14 @@ fn closed_conns(closes: Closes, conn: u32, k: [Conn; CONNS]) -> [Conn; CONNS]
 }
 
 // The session after a logout.
-pub fn after_logout(s: Session, conn: u32, r: LogoutStep) -> Session
+pub fn after_logout(s: Session, conn: u32, r: Result<LoggedOut, Refusal>) -> Session
     ensures { result ≡ after_logout s conn r }
 {
-    let w = r.window;
-    let a = r.answer;
-    let k = s.conns;
-    match a {
-        LogoutAnswer::Refused(_) => Session {
-            level: s.level,
-            window: w,
-            conns: k,
-        },
-        LogoutAnswer::LoggedOut {
-            emptied: _,
-            voided: _,
-            closes,
-        } => Session {
-            level: s.level,
-            window: w,
-            conns: closed_conns(closes, conn, k),
+    match r {
+        Err(_) => s,
+        Ok(l) => Session {
+            conns: closed_conns(l.closes, conn, s.conns),
+            ..after_window(s, l.window)
         },
     }
 }

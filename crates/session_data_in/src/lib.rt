@@ -13,9 +13,9 @@ ghost use Rattle.session_state.specs.Transfer.{transferred};
 use refusal::Refusal;
 use response_header::judge::too_long;
 use session_header::write_header;
-use session_state::{Reached, Session, longest_of, reach};
+use session_state::{Session, longest_of, reach};
 use store::HEADER_BYTES;
-use task::{DataInAnswer, Task};
+use task::{DataInSent, Task};
 
 // Sends a Data-In for a task on a connection: its header, with both window numbers, into the first 48 bytes of out. BUFFER, NOCONN, CLOSED, TOOLONG,
 // FIELD as the task's record has it.
@@ -27,38 +27,20 @@ pub fn data_in(
     acknowledge: bool,
     length: u32,
     out: &mut [u8],
-) -> DataInAnswer
+) -> Result<DataInSent, Refusal>
     ensures { (k : Commands) (ss : Statuses) (tags ends : List ℕ)
         → Did (Call.transfer conn (record_of t tags ends) (Transfer.data_in is_final acknowledge length (outputs out.old)))
         (state s k ss) (transferred (data_in_step_of t tags ends result)) (outputs out.new) (state s k ss) }
 {
     if out.len() < HEADER_BYTES {
-        return DataInAnswer::Refused(Refusal::Buffer);
+        return Err(Refusal::Buffer);
     }
-    match reach(s, conn) {
-        Reached::NoConn => DataInAnswer::Refused(Refusal::NoConn),
-        Reached::Closed => DataInAnswer::Refused(Refusal::Closed),
-        Reached::Open(l) => {
-            if too_long(length as u64, longest_of(s, conn)) {
-                return DataInAnswer::Refused(Refusal::TooLong);
-            }
-            match task_data_in::data_in(t, is_final, acknowledge, length) {
-                DataInAnswer::Refused(f) => DataInAnswer::Refused(f),
-                DataInAnswer::Sent {
-                    header,
-                    numbering,
-                    sequence,
-                } => {
-                    let w = s.window;
-                    let own = data_fields::data_in(header);
-                    write_header(w, l.next, own, out);
-                    DataInAnswer::Sent {
-                        header: header,
-                        numbering: numbering,
-                        sequence: sequence,
-                    }
-                }
-            }
-        }
+    let l = reach(s, conn)?;
+    if too_long(length as u64, longest_of(s, conn)) {
+        return Err(Refusal::TooLong);
     }
+    let sent = task_data_in::data_in(t, is_final, acknowledge, length)?;
+    let own = data_fields::data_in(sent.header);
+    write_header(s.window, l.next, own, out);
+    Ok(sent)
 }

@@ -3,6 +3,9 @@ use Prim.Native.Nat.{ℕ, zero, suc}
 use mathlib.Core.Path.{◌≡◌, refl, ap, ◌∙◌}
 use mathlib.Core.Bool.{Bool, true, false}
 use mathlib.Core.List.{List, [], ◌∷◌}
+use Rattle.refusal.specs.declared.Refusal.{Refusal}
+use Rattle.refusal.specs.declared.Refusal.TheVariants as F
+use Rattle.refusal.specs.Refusal.{number}
 use Rattle.field.specs.Field.{pick, be_at}
 use Rattle.request_header.specs.declared.DataOut.{DataOut}
 use Rattle.request_header.specs.declared.Limits.{Limits}
@@ -19,6 +22,20 @@ use Rattle.book.specs.Book.{OpenConnection, Book, no_outputs, data_out, transfer
 use Rattle.book.specs.Book.{moved_by, data_out_by, on_connection, transfer_by, book_step}
 use Rattle.session_state.specs.Transfer.{transferred}
 use Rattle.session_data_out.specs.Reading.{data_out_read, data_out_judged}
+
+pub number-not-0 : (f : Refusal) → number f ≡ 0 → ⊥
+number-not-0 F.Buffer e = cc
+number-not-0 F.Opcode e = cc
+number-not-0 F.Field e = cc
+number-not-0 F.Length e = cc
+number-not-0 F.TooLong e = cc
+number-not-0 (F.Login s) e = cc
+number-not-0 F.NoConn e = cc
+number-not-0 F.Closed e = cc
+number-not-0 F.Open e = cc
+number-not-0 F.Full e = cc
+number-not-0 F.Stale e = cc
+number-not-0 F.Snack e = cc
 
 module _ (x : Record) (s : List ℕ) where
   pub data-out-other : (o : ℕ) → (o ≡ 0x05 → ⊥) → data_out_read x (got (pdu_of o s)) ≡ T.refuse 3 x

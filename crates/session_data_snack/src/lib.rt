@@ -2,7 +2,7 @@
 // is new of the task's record is in the answer.
 #![tactic(auto)]
 
-ghost use Rattle.std.specs.Prelude.{◌≡◌, List, ℕ, ◌≤◌, length};
+ghost use Rattle.std.specs.Prelude.{◌≡◌, List, ℕ};
 ghost use Rattle.field.specs.Field.{be_at};
 ghost use Rattle.request_header.specs.Request.{read_pdu, snack_of};
 ghost use Rattle.task_book.specs.Steps.{data_snack_step};
@@ -14,33 +14,21 @@ ghost use Rattle.session_state.specs.Agree.{Did, state};
 ghost use Rattle.session_state.specs.Transfer.{transferred};
 ghost use Rattle.session_data_snack.specs.Reading.{data_snack_read};
 
-use field::be32;
-use request_header::{Limits, Snack};
-use request_refusal::refusal_before_field;
+use field::{HEADER_BYTES, be32};
+use refusal::Refusal;
+use request_header::Limits;
+use request_refusal::header_of;
 use request_rules::snack_ok;
-use session_state::{Reached, Session, limits_of, reach};
+use session_state::{Session, limits_of, reach};
 use task::{DataSnackAnswer, Task};
 
-// The numbers of refusals.
-const FIELD: u32 = 3;
-
-const NO_CONN: u32 = 7;
-
-const CLOSED: u32 = 8;
-
 // What a good SNACK asks for of a task's data, by its fields.
-fn data_snack_in(level: u32, t: Task, offset: u32, pdu: &[u8]) -> DataSnackAnswer
-    requires { 48 ≤ length pdu.now }
+fn data_snack_in(level: u32, t: Task, offset: u32, header: &[u8; HEADER_BYTES]) -> DataSnackAnswer
     ensures { (tags ends : List ℕ) → data_snack_step_of t tags ends result
-        ≡ data_snack_step (record_of t tags ends) level (be_at pdu.now 16 4) offset (snack_of pdu.now) }
+        ≡ data_snack_step (record_of t tags ends) level (be_at header.now 16 4) offset (snack_of header.now) }
 {
-    let p = Snack {
-        snack_type: pdu[1] % 16,
-        target_transfer_tag: be32(pdu, 20),
-        beg_run: be32(pdu, 40),
-        run_length: be32(pdu, 44),
-    };
-    let initiator_task_tag = be32(pdu, 16);
+    let p = request_unnumbered::snack(header);
+    let initiator_task_tag = be32(header, 16);
     task_snack::data_snack(t, level, initiator_task_tag, offset, p)
 }
 
@@ -49,14 +37,14 @@ fn read_data_snack(limits: Limits, level: u32, t: Task, offset: u32, pdu: &[u8])
     ensures { (tags ends : List ℕ) → data_snack_step_of t tags ends result
         ≡ data_snack_read (record_of t tags ends) level offset (read_pdu limits pdu.now) }
 {
-    let f = refusal_before_field(pdu, limits);
-    if f != 0 {
-        return DataSnackAnswer::Refused(f as u32);
+    let header = match header_of(pdu, limits) {
+        Ok(header) => header,
+        Err(f) => return DataSnackAnswer::from(f),
+    };
+    if (header[0] % 64 != 0x10) | !snack_ok(header) {
+        return DataSnackAnswer::from(Refusal::Field);
     }
-    if (pdu[0] % 64 != 0x10) | !snack_ok(pdu) {
-        return DataSnackAnswer::Refused(FIELD);
-    }
-    data_snack_in(level, t, offset, pdu)
+    data_snack_in(level, t, offset, header)
 }
 
 // A SNACK that came on a connection for a task's data: the run that it asks for, or how many numbers it acknowledges; the offset is where the data begins
@@ -67,9 +55,8 @@ pub fn data_snack(s: Session, conn: u32, t: Task, offset: u32, pdu: &[u8]) -> Da
         (state s k ss) (transferred (data_snack_step_of t tags ends result)) no_outputs (state s k ss) }
 {
     match reach(s, conn) {
-        Reached::NoConn => DataSnackAnswer::Refused(NO_CONN),
-        Reached::Closed => DataSnackAnswer::Refused(CLOSED),
-        Reached::Open(_) => {
+        Err(f) => DataSnackAnswer::from(f),
+        Ok(_) => {
             let limits = limits_of(s, conn);
             read_data_snack(limits, s.level, t, offset, pdu)
         }

@@ -20,9 +20,9 @@ pub fn write_header(w: Window, stat_sn: u32, o: OwnFields, out: &mut [u8])
     let exp_cmd_sn = window::exp_cmd_sn(w);
     let max_cmd_sn = window::max_cmd_sn(w);
     let n = Numbers {
-        stat_sn: stat_sn,
-        exp_cmd_sn: exp_cmd_sn,
-        max_cmd_sn: max_cmd_sn,
+        stat_sn,
+        exp_cmd_sn,
+        max_cmd_sn,
     };
     response_writer::place(out, 0, o, n);
 }

@@ -1,16 +1,19 @@
 -- Who holds a number, by the bits and the slot of its place; and that a question leaves all as it was.
-use Rattle.std.proofs.Common.{◌≡◌, ℕ, zero, suc, ◌+◌, ◌%◌, ◌^◌, ◌<◌, ◌≤◌, List, length, get_or, sym, refl, ap, ◌∙◌, arith}
+use Rattle.std.proofs.Common.{◌≡◌, ℕ, ◌%◌, ◌^◌, ◌<◌, ◌≤◌, List, length, get_or, sym, refl, ap, ◌∙◌, arith, le-ltb, lt-ltb}
 use lib.ListN.{get_or-eq_default}
+use Rattle.refusal.specs.declared.Refusal.{Refusal}
+use Rattle.refusal.specs.declared.Refusal.TheVariants as F
+use Rattle.refusal.specs.Refusal.{number}
 use Rattle.place_map.specs.Bit.{bit_at}
-use Rattle.place_map.proofs.Bits.{bit-lt, bit-none}
 use Rattle.window.specs.declared.Window.{Window}
-use Rattle.window.specs.Book.{Origin, Place, empty, holds, Book, distance, Holder, free, heldVoid, held_by, holder_at, holder_of}
+use Rattle.window.specs.Book.{Origin, Place, empty, holds, Book, distance, free, heldVoid, held_by, holder_at, holder_of}
 use Rattle.window.specs.PlaceSlot.{slot_of}
 use Rattle.window.specs.Agree.{Commands, Maps, held_bit, void_bit, SlotHas, OriginAt}
-use Rattle.window.proofs.Steps.{true-of-one, false-of-none}
+use Rattle.window.proofs.Steps.{difference, true-of-one, false-of-none}
 use Rattle.book.specs.Book as B
 use Rattle.session_state.specs.Agree.{State, Agrees, Did}
-use Rattle.session_state.proofs.Steps.{met, as_lent}
+use Rattle.session_state.specs.Reach.{Unreached}
+use Rattle.session_state.proofs.Steps.{met, as_lent, refusing, is-closed}
 
 -- ---- a bit of a map
 
@@ -18,24 +21,11 @@ pub bit-at : (n r d : ℕ) (f : Place → ℕ) (l : List Place) → Maps n f l �
 unfolding Maps
 bit-at n r d f l m e = sym (m d) ∙ sym e
 
-pub clear : (n r d : ℕ) → r ≡ bit_at n d → (r ≡ 1 → ⊥) → bit_at n d ≡ 0
-clear n r d e h = omega (arith, bit-lt n d)
-
--- of four maps none has the bit
-pub none-at : (l : List ℕ) (d : ℕ) → length l ≡ 4 → bit_at (get_or l 0 0) d ≡ 0 → bit_at (get_or l 1 0) d ≡ 0 → bit_at (get_or l 2 0) d ≡ 0
-    → bit_at (get_or l 3 0) d ≡ 0 → (c : ℕ) → bit_at (get_or l c 0) d ≡ 0
-none-at l d e p q r s zero = p
-none-at l d e p q r s (suc zero) = q
-none-at l d e p q r s (suc (suc zero)) = r
-none-at l d e p q r s (suc (suc (suc zero))) = s
-none-at l d e p q r s (suc (suc (suc (suc c)))) =
-    ap (λ (x : ℕ). bit_at x d) (get_or-eq_default l 0 {n = suc (suc (suc (suc c)))} (omega arith)) ∙ bit-none d
-
 -- ---- a number's place
 
-pub slot_is : (w : Window) (n d : ℕ) → (d + w.next) % 2 ^ 32 ≡ n → slot_of w d ≡ n % 64
+pub slot_is : (w : Window) (n : ℕ) → w.next < 2 ^ 32 → slot_of w (difference w n) ≡ n % 64
 unfolding slot_of
-slot_is w n d e = omega arith
+slot_is w n l = omega arith
 
 module _ (b : Book) (n d : ℕ) (e : distance b n ≡ d) where
   pub at_place : holder_of b n ≡ holder_at (get_or b.held d empty)
@@ -73,7 +63,7 @@ module _ (b : Book) (n d : ℕ) (e : distance b n ≡ d) where
 
 -- ---- a question
 
--- it is answered as the book has it, and nothing changes
+-- it is answered as the book has it, and nothing changes; or refused so
 pub told-as : (q : B.Question) (s : State) (r : B.Reply) → ((b : B.Book) → Agrees s b → B.reply_to b q ≡ B.told r) → Did (B.ask q) s (B.told r) B.no_outputs s
 unfolding B.book_step
 told-as q s r f = record {
@@ -81,3 +71,14 @@ told-as q s r f = record {
   stays = refl;
   keeps = as_lent refl;
 }
+
+pub refused-as : (q : B.Question) (s : State) (n : ℕ) → ((b : B.Book) → Agrees s b → B.reply_to b q ≡ B.refused n) → Did (B.ask q) s (B.refused n) B.no_outputs s
+unfolding B.book_step
+refused-as q s n f = refusing (B.ask q) s n B.no_outputs refl (λ b g. ap (λ (a : B.Answer). B.step a B.no_outputs b) (f b g))
+
+-- a number that reaches no connection has no next StatSN
+pub none-next : (s : State) (b : B.Book) (c : ℕ) (f : Refusal) → Agrees s b → Unreached s.session c f → B.reply_to b (B.next_stat_sn c) ≡ B.refused (number f)
+unfolding B.reply_to B.next_of
+none-next s b c F.NoConn g h = rw (le-ltb c 4 h)
+none-next s b c F.Closed g h = rw (lt-ltb c 4 h.0, is-closed s b g c h.0 h.1)
+none-next s b c f g h = absurd h

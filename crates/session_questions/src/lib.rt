@@ -2,12 +2,11 @@
 // how long a PDU is, by its first bytes.
 #![tactic(auto)]
 
-ghost use Rattle.std.specs.Prelude.{◌≡◌, ℕ, ◌<◌, List, slice_index_or};
+ghost use Rattle.std.specs.Prelude.{◌≡◌, ℕ, List};
 ghost use Rattle.request_header.specs.Request.{length_answer_of};
-ghost use Rattle.window.specs.Book.{Book, empty, holder_of};
-ghost use Rattle.window.specs.PlaceSlot.{slots};
+ghost use Rattle.window.specs.Book.{Book, holder_of};
 ghost use Rattle.window.specs.Agree as WA;
-ghost use Rattle.window.specs.Agree.{Commands, commands, OriginAt, origin_of};
+ghost use Rattle.window.specs.Agree.{Commands, commands};
 ghost use Rattle.ledger.specs.Agree.{Statuses};
 ghost use Rattle.book.specs.Book.{Call, Question, Answer, Reply, length_reply, no_outputs};
 ghost use Rattle.session_state.specs.Agree.{State, state, Did};
@@ -15,9 +14,9 @@ ghost use Rattle.session_questions.specs.Answer.{next_answer, holder_answer};
 
 use place_map::bit;
 use refusal::Refusal;
-use request_header::{LIMITS, LengthAnswer};
-use session_state::{Reached, Session, reach};
-use window::{Origin, WINDOW_SLOTS, Window};
+use request_header::LIMITS;
+use session_state::{Session, reach};
+use window::{WINDOW_SLOTS, Window};
 
 #[derive(Clone, Copy)]
 pub struct WindowNumbers {
@@ -25,18 +24,12 @@ pub struct WindowNumbers {
     pub max_cmd_sn: u32,
 }
 
-#[derive(Clone, Copy)]
-pub enum NextAnswer {
-    Refused(Refusal),
-    Next(u32),
-}
-
-// Who holds a number.
+// Who holds a number. Three answers to a question, none of them a refusal: an Option of a void number or a command would be read twice.
 #[derive(Clone, Copy)]
 pub enum HolderAnswer {
     Free,
     Void,
-    By { ticket: u32, origin: Origin },
+    By { ticket: u32, origin: Option<u32> },
 }
 
 // ExpCmdSN and MaxCmdSN.
@@ -53,36 +46,12 @@ pub fn window_numbers(s: Session) -> WindowNumbers
 }
 
 // The next StatSN of a connection. NOCONN, CLOSED.
-pub fn next_stat_sn(s: Session, conn: u32) -> NextAnswer
+pub fn next_stat_sn(s: Session, conn: u32) -> Result<u32, Refusal>
     ensures { (k : Commands) (ss : Statuses)
         → Did (Call.ask (Question.next_stat_sn conn)) (state s k ss) (next_answer result) no_outputs (state s k ss) }
 {
-    match reach(s, conn) {
-        Reached::NoConn => NextAnswer::Refused(Refusal::NoConn),
-        Reached::Closed => NextAnswer::Refused(Refusal::Closed),
-        Reached::Open(l) => NextAnswer::Next(l.next),
-    }
-}
-
-// The origin of the command at the place d.
-fn origin_at(w: Window, d: u32) -> Origin
-    requires { d < slots }
-    ensures { (k : Commands) (b : Book) → WA.Agrees (WA.state w k) b → OriginAt (origin_of result) (slice_index_or b.held d empty) }
-{
-    let m = w.origins;
-    if bit(m[0], d) == 1 {
-        return Origin::Connection(0);
-    }
-    if bit(m[1], d) == 1 {
-        return Origin::Connection(1);
-    }
-    if bit(m[2], d) == 1 {
-        return Origin::Connection(2);
-    }
-    if bit(m[3], d) == 1 {
-        return Origin::Connection(3);
-    }
-    Origin::None
+    let l = reach(s, conn)?;
+    Ok(l.next)
 }
 
 // Who holds a number of the window.
@@ -90,7 +59,7 @@ fn holder_in(w: Window, tickets: &[u32; WINDOW_SLOTS], number: u32) -> HolderAns
     ensures { (h : List ℕ) (b : Book) → WA.Agrees (WA.state w (commands h tickets.now)) b
         → holder_answer result ≡ holder_of b number }
 {
-    let d = std::num::wrapping_sub_u32(number, w.next);
+    let d = number.wrapping_sub(w.next);
     if WINDOW_SLOTS as u32 <= d {
         return HolderAnswer::Free;
     }
@@ -102,11 +71,8 @@ fn holder_in(w: Window, tickets: &[u32; WINDOW_SLOTS], number: u32) -> HolderAns
     }
     // A place's slot is that of its number.
     let ticket = tickets[(number as usize) % WINDOW_SLOTS];
-    let origin = origin_at(w, d);
-    HolderAnswer::By {
-        ticket: ticket,
-        origin: origin,
-    }
+    let origin = window::origin_at(w, d);
+    HolderAnswer::By { ticket, origin }
 }
 
 // Who holds a number: nobody, a void command, or a command with its ticket and the origin that it still has.
@@ -119,7 +85,7 @@ pub fn holder(s: Session, tickets: &[u32; WINDOW_SLOTS], number: u32) -> HolderA
 }
 
 // The whole length of the PDU that begins with these bytes. LENGTH under 48 of them, OPCODE, TOOLONG.
-pub fn whole_length(bytes: &[u8]) -> LengthAnswer
+pub fn whole_length(bytes: &[u8]) -> Result<u32, Refusal>
     ensures { (t : State)
         → Did (Call.ask (Question.whole_length bytes.now)) t (length_reply (length_answer_of result)) no_outputs t }
 {

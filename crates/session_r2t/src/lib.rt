@@ -11,9 +11,9 @@ ghost use Rattle.session_state.specs.Transfer.{transferred};
 
 use refusal::Refusal;
 use session_header::write_header;
-use session_state::{Reached, Session, reach};
+use session_state::{Session, reach};
 use store::HEADER_BYTES;
-use task::{OPEN_PLACES, R2tAnswer, Task};
+use task::{OPEN_PLACES, R2tSent, Task};
 
 // Sends an R2T for a task on a connection: its header, with the next StatSN, which it doesn't use up, and both window numbers, into the first 48
 // bytes of out. BUFFER, NOCONN, CLOSED, FIELD as the task's record has it. The R2T is open then; a refusal leaves the arrays.
@@ -26,36 +26,18 @@ pub fn r2t(
     tags: &mut [u32; OPEN_PLACES],
     ends: &mut [u64; OPEN_PLACES],
     out: &mut [u8],
-) -> R2tAnswer
+) -> Result<R2tSent, Refusal>
     ensures { ((k : Commands) (ss : Statuses)
         → Did (Call.transfer conn (record_of t tags.old ends.old) (Transfer.r2t tag length (outputs out.old)))
         (state s k ss) (transferred (r2t_step_of t tags.new ends.new result)) (outputs out.new) (state s k ss))
         × R2TStays result tags.old ends.old tags.new ends.new }
 {
     if out.len() < HEADER_BYTES {
-        return R2tAnswer::Refused(Refusal::Buffer);
+        return Err(Refusal::Buffer);
     }
-    match reach(s, conn) {
-        Reached::NoConn => R2tAnswer::Refused(Refusal::NoConn),
-        Reached::Closed => R2tAnswer::Refused(Refusal::Closed),
-        Reached::Open(l) => match task_r2t::r2t(t, tag, length, tags, ends) {
-            R2tAnswer::Refused(f) => R2tAnswer::Refused(f),
-            R2tAnswer::Sent {
-                header,
-                numbering,
-                sequence,
-                open_count,
-            } => {
-                let w = s.window;
-                let asks = data_fields::r2t(header);
-                write_header(w, l.next, asks, out);
-                R2tAnswer::Sent {
-                    header: header,
-                    numbering: numbering,
-                    sequence: sequence,
-                    open_count: open_count,
-                }
-            }
-        },
-    }
+    let l = reach(s, conn)?;
+    let sent = task_r2t::r2t(t, tag, length, tags, ends)?;
+    let asks = data_fields::r2t(sent.header);
+    write_header(s.window, l.next, asks, out);
+    Ok(sent)
 }

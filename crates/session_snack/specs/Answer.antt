@@ -1,17 +1,17 @@
 -- Paper 01's number and values of the answer.
+use Rattle.std.specs.Prelude.{Result, Ok, Err}
 use Rattle.refusal.specs.Refusal.{number}
+use Rattle.refusal.specs.declared.Refusal.{Refusal}
+use Rattle.ledger.specs.declared.Run.{Run}
 use Rattle.book.specs.Book as Book
 use Rattle.book.specs.Book.{Answer, refused, run, denied_run, from}
-use Rattle.session_snack.specs.declared.Asked.{Asked}
-use Rattle.session_snack.specs.declared.Asked.TheVariants as S
-use Rattle.session_snack.specs.declared.SnackAnswer.{SnackAnswer}
-use Rattle.session_snack.specs.declared.SnackAnswer.TheVariants as SnackA
+use Rattle.request_header.specs.declared.Snack.{Snack}
 
-abbrev pub snack_answer : SnackAnswer → Answer
-snack_answer (SnackA.Refused f) = refused (number f)
-snack_answer (SnackA.Run f n) = run f n
+abbrev pub snack_answer : Result Run Refusal → Answer
+snack_answer (Err f) = refused (number f)
+snack_answer (Ok x) = run x.first x.count
 
 -- of the inner functions: what a SNACK asks for
-abbrev pub asked_of : Asked → Book.Asked
-asked_of (S.Refused f) = denied_run (number f)
-asked_of (S.Run b n) = from b n
+abbrev pub asked_of : Result Snack Refusal → Book.Asked
+asked_of (Err f) = denied_run (number f)
+asked_of (Ok x) = from x.beg_run x.run_length

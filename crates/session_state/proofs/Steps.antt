@@ -1,19 +1,19 @@
 -- The steps of the code against the book's: a law for each guard and each outcome of the book's step, and for each change of
 -- the code's state that agreement survives.
-use Prim.Native.Nat.{ℕ, zero, suc, ◌+◌, ◌-◌, ◌≤◌, ◌<◌}
+use Prim.Native.Nat.{ℕ, ◌≤◌, ◌<◌}
 use mathlib.Core.Path.{◌≡◌, refl, sym, ap, ap₂, ◌∙◌, subst}
-use mathlib.Core.Bool.{Bool, true, false}
-use mathlib.Core.List.{List, []}
+use mathlib.Core.Bool.{true, false}
+use mathlib.Core.List.{List}
 use native.Mathlib.Omega.{arith}
 use native.Mathlib.Decide.{ℕ_discrete}
 use borrow.Author.Tests.{lt-ltb, le-ltb}
-use lib.Dec.{ltb}
 use lib.ListN.{length, get_or, set, drop, length-set}
 use lib.Seq.{get_or-set_same, get_or-set_other}
-use Rattle.field.specs.Field.{pick}
+use Rattle.refusal.specs.declared.Refusal.{Refusal}
+use Rattle.refusal.specs.declared.Refusal.TheVariants as F
+use Rattle.refusal.specs.Refusal.{number}
 use Rattle.window.specs.Book as W
 use Rattle.window.specs.Agree as WA
-use Rattle.window.specs.declared.Window.{Window}
 use Rattle.ledger.specs.Book as L
 use Rattle.ledger.specs.Agree as LA
 use Rattle.ledger.specs.Agree.{Statuses}
@@ -23,8 +23,8 @@ use Rattle.book.proofs.Small.{apart}
 use Rattle.session_state.specs.declared.Conn.{Conn}
 use Rattle.session_state.specs.declared.Session.{Session}
 use Rattle.session_state.specs.After.{no_conn, conn_at, after_window, after_conn, after_ledger}
-use Rattle.session_state.specs.Reach.{IsOpen}
-use Rattle.session_state.specs.Agree.{State, state, OpenAgrees, ConnAgrees, Agrees, MeetsAt, Changes, WindowStays, Stays, KeepsLent, Did}
+use Rattle.session_state.specs.Reach.{IsOpen, Unreached}
+use Rattle.session_state.specs.Agree.{State, state, OpenAgrees, ConnAgrees, Agrees, MeetsAt, Changes, Stays, KeepsLent, Did}
 
 -- ---- from the book's step, known whole
 
@@ -72,6 +72,13 @@ pub reach-closed : (s : State) (b : Book) (c : ℕ) (o : Outputs) (k : OpenConne
     → (conn_at s.session c).is_open ≡ false → on_connection b c o k ≡ step (refused 8) o b
 unfolding on_connection on_open
 reach-closed s b c o k g l e = rw (lt-ltb c 4 l, is-closed s b g c l e)
+
+-- a number that reaches no ledger is refused so
+pub reach-refused : (s : State) (b : Book) (c : ℕ) (o : Outputs) (k : OpenConnection → Step) (f : Refusal) → Agrees s b → Unreached s.session c f
+    → on_connection b c o k ≡ step (refused (number f)) o b
+reach-refused s b c o k F.NoConn g h = reach-none b c o k h
+reach-refused s b c o k F.Closed g h = reach-closed s b c o k g h.0 h.1
+reach-refused s b c o k f g h = absurd h
 
 -- an open connection, on paper
 pub record OpenAt (ss : Statuses) (b : Book) (c : ℕ) (l : Ledger) : Type 0 where

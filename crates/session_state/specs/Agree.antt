@@ -1,5 +1,5 @@
 -- How the code's session, with the arrays lent to it, stands for the book; and the contract that all calls share, `Did`.
-use Rattle.std.specs.Prelude.{ℕ, ◌*◌, ◌<◌, ◌≡◌, Bool, true, false, List, length, get_or, replicate}
+use Rattle.std.specs.Prelude.{ℕ, ◌*◌, ◌<◌, ◌≡◌, Bool, true, false, length, get_or, replicate}
 use Rattle.std.proofs.Math.ListN as ListN
 use Rattle.request_header.specs.Request.{limits}
 use Rattle.response_header.specs.Response.{max_data_length}

@@ -9,6 +9,7 @@ ghost use Rattle.session_state.specs.Limits.{limits_of, longest_of};
 ghost use Rattle.session_state.specs.Reach.{ReachesAt, Reaches};
 
 use ledger::Ledger;
+use refusal::Refusal;
 use request_header::{LIMITS, Limits};
 use response_header::MAX_DATA;
 use window::{CONNECTIONS, CONNS, Window};
@@ -28,31 +29,24 @@ pub struct Session {
     pub conns: [Conn; CONNS],
 }
 
-// The connection that a call names.
-#[derive(Clone, Copy)]
-pub enum Reached {
-    NoConn,
-    Closed,
-    Open(Ledger),
-}
-
-// A connection, open or not. The ledger is made of its numbers and not copied, or the compiler would keep all four in memory to copy one.
-fn by_conn(k: Conn) -> Reached
+// A connection's ledger, or that the connection is closed. The ledger is made of its numbers and not copied, or the compiler would keep all
+// four in memory to copy one.
+fn by_conn(k: Conn) -> Result<Ledger, Refusal>
     ensures { ReachesAt k result }
 {
     if k.is_open {
         let l = k.ledger;
-        Reached::Open(Ledger {
+        Ok(Ledger {
             next: l.next,
             held: l.held,
         })
     } else {
-        Reached::Closed
+        Err(Refusal::Closed)
     }
 }
 
-// Finds the connection of a number.
-pub fn reach(s: Session, conn: u32) -> Reached
+// The ledger of the connection that a call names. NOCONN, CLOSED.
+pub fn reach(s: Session, conn: u32) -> Result<Ledger, Refusal>
     ensures { Reaches s conn result }
 {
     let conns = s.conns;
@@ -61,7 +55,7 @@ pub fn reach(s: Session, conn: u32) -> Reached
         1 => by_conn(conns[1]),
         2 => by_conn(conns[2]),
         3 => by_conn(conns[3]),
-        _ => Reached::NoConn,
+        _ => Err(Refusal::NoConn),
     }
 }
 

@@ -1,18 +1,29 @@
 -- The book's step at an acknowledgement and a resend, by its outcome.
 use Prim.Native.Nat.{ℕ, ◌≤◌, ◌<◌}
-use mathlib.Core.Path.{◌≡◌, refl, ap, ◌∙◌}
+use mathlib.Core.Path.{◌≡◌, refl, sym, ap, ◌∙◌}
 use mathlib.Core.Bool.{Bool, true, false}
 use mathlib.Core.List.{List, ◌++◌}
 use native.Mathlib.Omega.{arith}
 use borrow.Author.Tests.{eq-eqb, ne_eqb}
 use lib.ListN.{length, drop}
+use Rattle.std.specs.Prelude.{Option, Some, None}
+use Rattle.std.specs.Option.{ok_or}
+use Rattle.refusal.specs.declared.Refusal.TheVariants as F
 use Rattle.task_book.specs.Record.{Record}
 use Rattle.ledger.specs.Book as L
 use Rattle.ledger.specs.Agree as LA
 use Rattle.ledger.specs.Answer as Answers
 use Rattle.ledger.specs.declared.Renewal.{Renewal}
 use Rattle.book.specs.Book.{OpenConnection, with_ledger, live, Book, Outputs, outputs, no_outputs, written, acknowledge, resend, Choice, refused, acknowledged, resent, step, with_conn, on_connection, lending, acknowledge_by, conn_of, renewal, shown, resend_by, book_step}
-use Rattle.session_state.proofs.Steps.{lend-long, reach-open}
+use Rattle.window.specs.Agree.{Commands}
+use Rattle.ledger.specs.Agree.{Statuses}
+use Rattle.ledger.specs.declared.Ledger.{Ledger}
+use Rattle.ledger.specs.declared.Released.{Released}
+use Rattle.session_state.specs.declared.Session.{Session}
+use Rattle.session_state.specs.Reach.{IsOpen}
+use Rattle.session_state.specs.Agree.{Agrees, Did, state}
+use Rattle.session_state.proofs.Steps.{met, as_lent, refusing, lend-long, reach-open, open_at, ledger-set}
+use Rattle.session_statuses.specs.Answer.{acknowledge_answer, after_acknowledge, resend_answer}
 
 -- ---- each call, by its connection
 
@@ -55,6 +66,30 @@ module _ (b : Book) (c n : ℕ) (y : Record) (o : List ℕ) (x : Choice) (k : Op
   unfolding resend_by
   resend-some e = resend-at ∙ rw (ne_eqb b.given.level 0 e)
 
+-- what the ledger did is what the session's step does
+module _ (s : Session) (cs : Commands) (ss : Statuses) (c n : ℕ) (y : Record) (l : Ledger) (i : IsOpen s c l) (o : List ℕ) (long : 48 ≤ length o) where
+  pub resend-denied : s.level ≡ 0 → Did (resend c n y (outputs o)) (state s cs ss) (refused 12) (outputs o) (state s cs ss)
+  resend-denied z = refusing _ _ 12 (outputs o) refl (λ b g.
+      let v = open_at (state s cs ss) b c l g i in
+      resend-none b c n y o _ v.book long v.near v.is (sym g.level ∙ z))
+
+  pub resends : (s.level ≡ 0 → ⊥) → (x : Renewal) → ((b : Book) → Agrees (state s cs ss) b → x ≡ renewal b y) → (o' : List ℕ) (r : Option ℕ)
+      → LA.Resends c l n x ss o r o'
+      → Did (resend c n y (outputs o)) (state s cs ss) (resend_answer (ok_or r F.Snack)) (outputs o') (state s cs ss)
+  resends z x e o' None d = rw d.stays (refusing _ _ 12 (outputs o) refl (λ b g.
+      let v = open_at (state s cs ss) b c l g i in
+      resend-some b c n y o _ v.book long v.near v.is (λ q. z (g.level ∙ q))
+      ∙ shown-missing b y o x (L.status_of v.book.ledger n) o' (d.meets v.book.ledger v.agrees.ledger)))
+  resends z x e o' (Some t) d = record {
+    meets = λ b g.
+        let v = open_at (state s cs ss) b c l g i in
+        met _ _ _ _ _ b b
+        (resend-some b c n y o _ v.book long v.near v.is (λ q. z (g.level ∙ q))
+        ∙ shown-found b y o x (L.status_of v.book.ledger n) t o' (d.meets v.book.ledger v.agrees.ledger) (e b g)) g;
+    stays = refl;
+    keeps = record { size = d.out_size; rest = d.out_rest };
+  }
+
 -- ---- acknowledge
 
 module _ (b : Book) (c e : ℕ) (k : OpenConnection) where
@@ -75,3 +110,21 @@ module _ (b : Book) (c e : ℕ) (k : OpenConnection) where
           → acknowledge_by b c e k ≡ step (acknowledged n) no_outputs (with_conn b c (live (with_ledger k (L.released k.ledger e))))
       go true h = let p : n ≡ L.place k.ledger e = cc (rw h at q) in rw (h, p)
       go false h = let z : ◌≡◌ {A = ℕ} 0 1 = cc (rw h at q) in absurd (omega arith)
+
+module _ (s : Session) (cs : Commands) (ss : Statuses) (c e : ℕ) (l : Ledger) (i : IsOpen s c l) where
+  pub acknowledges : (r : Option Released) → ((b : L.LedgerBook) → LA.Agrees c l ss b → LA.AcknowledgesAt c ss r b e)
+      → Did (acknowledge c e) (state s cs ss) (acknowledge_answer (ok_or r F.Stale)) no_outputs (state (after_acknowledge s c (ok_or r F.Stale)) cs ss)
+  acknowledges None d = refusing _ _ 11 no_outputs refl (λ b g.
+      let v = open_at (state s cs ss) b c l g i in
+      acknowledge-eq b c e _ ∙ reach-open b c no_outputs _ v.book v.near v.is
+      ∙ acknowledge-stale b c e v.book (d v.book.ledger v.agrees.ledger).answer)
+  acknowledges (Some x) d = record {
+    meets = λ b g.
+        let v = open_at (state s cs ss) b c l g i in
+        let k = d v.book.ledger v.agrees.ledger in
+        met _ _ _ _ _ b _
+        (acknowledge-eq b c e _ ∙ reach-open b c no_outputs _ v.book v.near v.is ∙ acknowledge-good b c e v.book x.count k.answer)
+        (ledger-set _ ss b c _ _ _ g i v k.agrees (λ j m q n a. a) g.statuses_size g.tickets_size);
+    stays = tt;
+    keeps = as_lent refl;
+  }

@@ -14,24 +14,11 @@ pub fn completed(r: Response, n: Numbering) -> Response
     ensures { (y : Record) → y.numbering ≡ n → result ≡ completed y r }
 {
     match r {
-        Response::NopIn(_) => r,
         Response::ScsiResponse(x) => Response::ScsiResponse(ScsiResponse {
-            overflow: x.overflow,
-            underflow: x.underflow,
-            response: x.response,
-            status: x.status,
-            data_segment_length: x.data_segment_length,
-            initiator_task_tag: x.initiator_task_tag,
-            snack_tag: x.snack_tag,
-            residual_count: x.residual_count,
             exp_data_sn: exp_data_sn(n, x.response),
+            ..x
         }),
-        Response::TaskManagementResponse(_) => r,
-        Response::LoginResponse(_) => r,
-        Response::DataIn(_) => r,
-        Response::LogoutResponse(_) => r,
-        Response::R2t(_) => r,
-        Response::Reject(_) => r,
+        _ => r,
     }
 }
 
@@ -41,14 +28,10 @@ pub fn is_due(r: Response, initiator_task_tag: u32, snack_tag: u32) -> bool
         → result ≡ is_due y r }
 {
     match r {
-        Response::NopIn(_) => true,
-        Response::ScsiResponse(x) => (x.initiator_task_tag == initiator_task_tag)
-            & (x.snack_tag == snack_tag),
-        Response::TaskManagementResponse(_) => true,
-        Response::LoginResponse(_) => true,
-        Response::DataIn(_) => false,
-        Response::LogoutResponse(_) => true,
-        Response::R2t(_) => false,
-        Response::Reject(_) => true,
+        Response::ScsiResponse(x) => {
+            (x.initiator_task_tag == initiator_task_tag) & (x.snack_tag == snack_tag)
+        }
+        Response::DataIn(_) | Response::R2t(_) => false,
+        _ => true,
     }
 }

@@ -3,7 +3,7 @@
 
 ghost use Rattle.std.specs.Prelude.{◌≡◌, List, ℕ};
 ghost use Rattle.words.specs.Words.{flag_word};
-ghost use Rattle.session_words.specs.State.{conn_of_words, session_of};
+ghost use Rattle.session_words.specs.State.{conn_of_words, session_of, window_maps};
 
 use ledger::Ledger;
 use session_state::{Conn, Session};
@@ -15,10 +15,7 @@ fn conn_of(is_open: u32, next: u32, held: u32) -> Conn
 {
     Conn {
         is_open: is_open != 0,
-        ledger: Ledger {
-            next: next,
-            held: held,
-        },
+        ledger: Ledger { next, held },
     }
 }
 
@@ -29,6 +26,15 @@ pub fn open_word(k: Conn) -> u32
     if k.is_open { 1 } else { 0 }
 }
 
+// The six maps of a window.
+pub fn maps_of(w: Window) -> [u64; 6]
+    ensures { result ≡ window_maps w }
+{
+    let o = w.origins;
+    [w.held, w.voided, o[0], o[1], o[2], o[3]]
+}
+
+#[tactic(auto, unfolding(crate::specs::State::session_of))]
 fn window_of(n: &[u32; 15], m: &[u64; 6]) -> Window
     ensures { result ≡ (session_of n.now m.now).window }
 {
@@ -41,14 +47,17 @@ fn window_of(n: &[u32; 15], m: &[u64; 6]) -> Window
     }
 }
 
+// Word by word, as `session_of` and the header have them: a map over the places would hide which word is which.
+#[tactic(auto, unfolding(crate::specs::State::session_of))]
 fn conns_of(n: &[u32; 15]) -> [Conn; CONNS]
     ensures { (m : List ℕ) → result ≡ (session_of n.now m).conns }
 {
-    let c0 = conn_of(n[3], n[4], n[5]);
-    let c1 = conn_of(n[6], n[7], n[8]);
-    let c2 = conn_of(n[9], n[10], n[11]);
-    let c3 = conn_of(n[12], n[13], n[14]);
-    [c0, c1, c2, c3]
+    [
+        conn_of(n[3], n[4], n[5]),
+        conn_of(n[6], n[7], n[8]),
+        conn_of(n[9], n[10], n[11]),
+        conn_of(n[12], n[13], n[14]),
+    ]
 }
 
 // The session that the numbers and the maps are.

@@ -1,13 +1,13 @@
 // SCSI and Task Management Responses made of words.
-#![tactic(auto)]
+#![tactic(auto, using(std::proofs::lemmas::Bool::Decides::nat_tests))]
 
 ghost use Rattle.std.specs.Prelude.{◌≡◌};
 ghost use Rattle.response_words.specs.ResponseWords.{scsi_response_of, task_management_response_of};
 
 use response_header::{Response, ScsiResponse, TaskManagementResponse};
-use response_words::{FromWords, WIDE_8, WIDE_32};
+use response_words::{Unfit, WIDE_8, WIDE_32};
 
-pub fn scsi_response(w: &[u64; 10]) -> FromWords
+pub fn scsi_response(w: &[u64; 10]) -> Result<Response, Unfit>
     ensures { result ≡ scsi_response_of w.now }
 {
     let o = w[1];
@@ -23,7 +23,7 @@ pub fn scsi_response(w: &[u64; 10]) -> FromWords
         & (((stated < WIDE_32) & (itt < WIDE_32))
             & (((tag < WIDE_32) & (residual < WIDE_32)) & (exp_data_sn < WIDE_32)))
     {
-        FromWords::Response(Response::ScsiResponse(ScsiResponse {
+        Ok(Response::ScsiResponse(ScsiResponse {
             overflow: o != 0,
             underflow: u != 0,
             response: code as u8,
@@ -35,21 +35,21 @@ pub fn scsi_response(w: &[u64; 10]) -> FromWords
             exp_data_sn: exp_data_sn as u32,
         }))
     } else {
-        FromWords::Unfit(stated)
+        Err(Unfit { stated })
     }
 }
 
-pub fn task_management_response(w: &[u64; 10]) -> FromWords
+pub fn task_management_response(w: &[u64; 10]) -> Result<Response, Unfit>
     ensures { result ≡ task_management_response_of w.now }
 {
     let code = w[1];
     let itt = w[2];
     if (code < WIDE_8) & (itt < WIDE_32) {
-        FromWords::Response(Response::TaskManagementResponse(TaskManagementResponse {
+        Ok(Response::TaskManagementResponse(TaskManagementResponse {
             response: code as u8,
             initiator_task_tag: itt as u32,
         }))
     } else {
-        FromWords::Unfit(0)
+        Err(Unfit { stated: 0 })
     }
 }

@@ -11,8 +11,8 @@ ghost use Rattle.task_words.specs.TaskWords.{task_words, record_in};
 ghost use Rattle.call_words.specs.Session.{session_words, Said};
 
 use answer_words::DONE;
+use ledger::Released;
 use session_changes::store_ledger;
-use session_statuses::AcknowledgeAnswer;
 use session_words::load;
 
 // Releases the statuses before an ExpStatSN.
@@ -25,8 +25,8 @@ pub fn acknowledge(n: &mut [u32; 15], m: &mut [u64; 6], conn: u32, exp_stat_sn: 
 {
     let s = load(n, m);
     match session_statuses::acknowledge(s, conn, exp_stat_sn) {
-        AcknowledgeAnswer::Refused(f) => answer_words::pack_refused(f),
-        AcknowledgeAnswer::Acknowledged { count, ledger } => {
+        Err(f) => answer_words::pack_refused(f),
+        Ok(Released { count, ledger }) => {
             store_ledger(n, conn, ledger);
             answer_words::pack(DONE, count)
         }

@@ -7,41 +7,17 @@ ghost use Rattle.std.proofs.Math.Seq.{paste};
 ghost use Rattle.store.specs.Slot.{header_size};
 
 // The length of a header, and so of a slot.
-pub const HEADER_BYTES: usize = 48;
+pub use field::HEADER_BYTES;
 
-// The first 48 bytes of a header. By value, so that the two copies of `put` are each of memory that nothing else refers to, and compile to
-// a few wide moves.
-fn first_bytes(header: &[u8]) -> [u8; 48]
-    requires { header_size ≤ length header.now }
-    ensures { result ≡ take header_size header.now }
-{
-    let mut bytes = [0u8; 48];
-    let mut i: usize = 0;
-    while i < HEADER_BYTES {
-        bytes[i] = header[i];
-        i += 1;
-    }
-    bytes
-}
-
-fn place(headers: &mut [u8], at: usize, bytes: [u8; 48])
-    requires { at + header_size ≤ length headers.old }
-    ensures { headers.new ≡ paste headers.old at bytes header_size }
-{
-    let mut i: usize = 0;
-    while i < HEADER_BYTES {
-        headers[at + i] = bytes[i];
-        i += 1;
-    }
-}
-
-// Writes the first 48 bytes of a header into the bytes from `at` on.
+// Writes the first 48 bytes of a header into the bytes from `at` on. By way of an array of its own, so that the two copies are each of memory
+// that nothing else refers to, and compile to a few wide moves.
 pub fn put(headers: &mut [u8], at: usize, header: &[u8])
     requires { (at + header_size ≤ length headers.old) × (header_size ≤ length header.now) }
     ensures { headers.new ≡ paste headers.old at header.now header_size }
 {
-    let bytes = first_bytes(header);
-    place(headers, at, bytes);
+    let mut bytes = [0u8; HEADER_BYTES];
+    bytes.copy_from_slice(&header[..HEADER_BYTES]);
+    headers[at..at + HEADER_BYTES].copy_from_slice(&bytes);
 }
 
 // Copies the header that starts at `at` into the first 48 bytes of out; the later ones stay.

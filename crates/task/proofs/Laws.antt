@@ -1,11 +1,11 @@
 -- Laws of a task's record: what the rules of each call say where they hold, and the tests of the code that decide the same without a sum that wraps.
 use Prim.Native.Nat.{ℕ, ◌+◌, ◌-◌, ◌<◌, ◌≤◌}
 use mathlib.Core.Path.{◌≡◌, refl, sym, ap, ◌∙◌}
-use mathlib.Core.Bool.{Bool, true, false, not, ◌&&◌, ◌||◌, or-false}
+use mathlib.Core.Bool.{Bool, true, false, not, ◌&&◌}
 use mathlib.Core.List.{List, [], ◌∷◌}
 use native.Mathlib.Omega.{arith}
-use native.Mathlib.Decide.{ℕ_discrete, dec_lt}
-use borrow.Author.Tests.{ltb-true, leb-true, le-leb, lt-leb, eqb-true, ne_eqb}
+use native.Mathlib.Decide.{dec_lt}
+use borrow.Author.Tests.{ltb-true, leb-true, le-leb, lt-leb, eqb-true}
 use lib.Dec.{ltb, leb, eqb}
 use lib.ListN.{length}
 use Rattle.field.specs.Field.{pick, none}
@@ -79,19 +79,6 @@ r2t-good x t n e =
     let h = r2t-holds (not (eqb t none)) (ltb 0 n) (leb n x.given.max_burst_length) (leb (x.data_out.asked + n) offset_end)
     (ltb (length x.open_r2ts) x.given.max_outstanding_r2t) (ltb (length x.open_r2ts) open_places) (ltb x.numbering.sent last_number) e in
     record { some = ltb-true _ _ h.0; end = leb-true _ _ h.1.0; few = ltb-true _ _ h.1.1.0; left = ltb-true _ _ h.1.1.1 }
-
--- The end of a Data-Out is counted from its own offset, which must be where the data came up to.
-pub from-offset : (f : Bool) (b c n e : ℕ)
-    → (eqb b c && ((f && eqb (b + n) e) || (not f && ltb (b + n) e))) ≡ (eqb b c && pick f (eqb (c + n) e) (ltb (c + n) e))
-from-offset f b c n e = go (ℕ_discrete b c)
-  where
-    by_end : (f : Bool) → ((f && eqb (c + n) e) || (not f && ltb (c + n) e)) ≡ pick f (eqb (c + n) e) (ltb (c + n) e)
-    by_end true = or-false (eqb (c + n) e)
-    by_end false = refl
-
-    go : Dec (b ≡ c) → (eqb b c && ((f && eqb (b + n) e) || (not f && ltb (b + n) e))) ≡ (eqb b c && pick f (eqb (c + n) e) (ltb (c + n) e))
-    go (yes q) = rw (q, by_end f)
-    go (no q) = rw (ne_eqb b c q)
 
 -- What the rules of a Data-Out say where they hold.
 pub record DataOutGood (x : Record) (p : DataOut) : Type 0 where

@@ -1,6 +1,7 @@
 -- Follows the code: how its struct of a task, with the two arrays that are lent with it, is a record of the rules; and for each answer the step, the
 -- answer and the record after it, that it stands for. Every struct and every pair of lists is a record.
-use Rattle.std.specs.Prelude.{ℕ, zero, suc, ◌+◌, ◌%◌, ◌≡◌, List, [], ◌∷◌, get_or}
+use Rattle.std.specs.Prelude.{ℕ, zero, suc, ◌+◌, ◌%◌, ◌≡◌, List, [], ◌∷◌, get_or, Result, Ok, Err}
+use Rattle.refusal.specs.declared.Refusal.{Refusal}
 use Rattle.refusal.specs.Refusal.{number}
 use Rattle.task_book.specs.declared.Numbering.{Numbering}
 use Rattle.task_book.specs.declared.DataInSequence.{DataInSequence}
@@ -8,12 +9,8 @@ use Rattle.task_book.specs.declared.DataOutSequence.{DataOutSequence}
 use Rattle.task_book.specs.Record.{OpenR2T, Record, open_places, Making, refused, made}
 use Rattle.task_book.specs.Steps.{Step, step, refuse, data_in, r2t, came, run, acknowledged, r2t_step}
 use Rattle.task.specs.declared.Task.{Task}
-use Rattle.task.specs.declared.MakeAnswer.{MakeAnswer}
-use Rattle.task.specs.declared.MakeAnswer.TheVariants as M
-use Rattle.task.specs.declared.DataInAnswer.{DataInAnswer}
-use Rattle.task.specs.declared.DataInAnswer.TheVariants as I
-use Rattle.task.specs.declared.R2tAnswer.{R2tAnswer}
-use Rattle.task.specs.declared.R2tAnswer.TheVariants as Q
+use Rattle.task.specs.declared.DataInSent.{DataInSent}
+use Rattle.task.specs.declared.R2tSent.{R2tSent}
 use Rattle.task.specs.declared.DataOutAnswer.{DataOutAnswer}
 use Rattle.task.specs.declared.DataOutAnswer.TheVariants as O
 use Rattle.task.specs.declared.DataSnackAnswer.{DataSnackAnswer}
@@ -73,25 +70,25 @@ with_numbering t n = with_data_in t n t.data_in
 
 -- ---- the answers
 
-abbrev pub making_of : (tags ends : List ℕ) → MakeAnswer → Making
-making_of ts es (M.Refused f) = refused (number f)
-making_of ts es (M.Made t) = made (record_of t ts es)
+abbrev pub making_of : (tags ends : List ℕ) → Result Task Refusal → Making
+making_of ts es (Err f) = refused (number f)
+making_of ts es (Ok t) = made (record_of t ts es)
 
-abbrev pub data_in_step_of : Task → (tags ends : List ℕ) → DataInAnswer → Step
-data_in_step_of t ts es (I.Refused f) = refuse (number f) (record_of t ts es)
-data_in_step_of t ts es (I.Sent h n s) = step (data_in h) (record_of (with_data_in t n s) ts es)
+abbrev pub data_in_step_of : Task → (tags ends : List ℕ) → Result DataInSent Refusal → Step
+data_in_step_of t ts es (Err f) = refuse (number f) (record_of t ts es)
+data_in_step_of t ts es (Ok a) = step (data_in a.header) (record_of (with_data_in t a.numbering a.sequence) ts es)
 
 -- With the arrays after the call.
-abbrev pub r2t_step_of : Task → (tags ends : List ℕ) → R2tAnswer → Step
-r2t_step_of t ts es (Q.Refused f) = refuse (number f) (record_of t ts es)
-r2t_step_of t ts es (Q.Sent h n s k) = step (r2t h) (record_of (with_r2t t n s k) ts es)
+abbrev pub r2t_step_of : Task → (tags ends : List ℕ) → Result R2tSent Refusal → Step
+r2t_step_of t ts es (Err f) = refuse (number f) (record_of t ts es)
+r2t_step_of t ts es (Ok a) = step (r2t a.header) (record_of (with_r2t t a.numbering a.sequence a.open_count) ts es)
 
 -- "a refusal returns it unchanged": also what no open R2T has of the arrays.
-abbrev pub R2TStays : R2tAnswer → (tags ends tags' ends' : List ℕ) → Type 0
-R2TStays (Q.Refused f) ts es ts' es' = (ts' ≡ ts) × (es' ≡ es)
-R2TStays (Q.Sent h n s k) ts es ts' es' = Unit {0}
+abbrev pub R2TStays : Result R2tSent Refusal → (tags ends tags' ends' : List ℕ) → Type 0
+R2TStays (Err f) ts es ts' es' = (ts' ≡ ts) × (es' ≡ es)
+R2TStays (Ok a) ts es ts' es' = Unit {0}
 
-pub record R2TDone (t : Task) (tag len : ℕ) (tags ends : List ℕ) (r : R2tAnswer) (tags' ends' : List ℕ) : Type 0 where
+pub record R2TDone (t : Task) (tag len : ℕ) (tags ends : List ℕ) (r : Result R2tSent Refusal) (tags' ends' : List ℕ) : Type 0 where
   pub meets : r2t_step_of t tags' ends' r ≡ r2t_step (record_of t tags ends) tag len
   pub stays : R2TStays r tags ends tags' ends'
 

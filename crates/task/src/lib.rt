@@ -4,11 +4,12 @@
 #![tactic(auto)]
 
 ghost use Rattle.std.specs.Prelude.{◌≡◌, List, ℕ};
+ghost use Rattle.refusal.specs.Refusal.{number};
 ghost use Rattle.task_book.specs.Record.{making};
 ghost use Rattle.task_book.specs.Steps.{exp_data_sn_of};
 ghost use Rattle.task.specs.Agree.{making_of};
 
-use refusal::Refusal;
+use refusal::{Refusal, number_of};
 use response_header::{DataIn, R2t};
 use task_book::{DataInSequence, DataOutSequence, Numbering, TaskGiven};
 
@@ -34,38 +35,26 @@ pub struct Task {
     pub open_count: u32,
 }
 
-#[derive(Clone, Copy)]
-pub enum MakeAnswer {
-    Refused(Refusal),
-    Made(Task),
-}
-
 // The header that is written, and what is new of the record.
 #[derive(Clone, Copy)]
-pub enum DataInAnswer {
-    Refused(Refusal),
-    Sent {
-        header: DataIn,
-        numbering: Numbering,
-        sequence: DataInSequence,
-    },
+pub struct DataInSent {
+    pub header: DataIn,
+    pub numbering: Numbering,
+    pub sequence: DataInSequence,
 }
 
 #[derive(Clone, Copy)]
-pub enum R2tAnswer {
-    Refused(Refusal),
-    Sent {
-        header: R2t,
-        numbering: Numbering,
-        sequence: DataOutSequence,
-        open_count: u32,
-    },
+pub struct R2tSent {
+    pub header: R2t,
+    pub numbering: Numbering,
+    pub sequence: DataOutSequence,
+    pub open_count: u32,
 }
 
 // Where the data lies and how long it is, and what is new of the record.
 #[derive(Clone, Copy)]
 pub enum DataOutAnswer {
-    // The refusal's number, which goes back in a register.
+    // The refusal's number and not the enum, which goes through memory: with it a Data-Out took twice as long.
     Refused(u32),
     Came {
         offset: u32,
@@ -97,14 +86,34 @@ pub enum DataSnackAnswer {
     },
 }
 
+impl From<Refusal> for DataOutAnswer {
+    ghost use Rattle.task.specs.declared.DataOutAnswer.TheVariants as O;
+
+    ghost from_gives = { λ f a. a ≡ O.Refused (number f) };
+
+    fn from(f: Refusal) -> DataOutAnswer {
+        DataOutAnswer::Refused(number_of(f) as u32)
+    }
+}
+
+impl From<Refusal> for DataSnackAnswer {
+    ghost use Rattle.task.specs.declared.DataSnackAnswer.TheVariants as S;
+
+    ghost from_gives = { λ f a. a ≡ S.Refused (number f) };
+
+    fn from(f: Refusal) -> DataSnackAnswer {
+        DataSnackAnswer::Refused(number_of(f) as u32)
+    }
+}
+
 // A fresh record, whatever the arrays hold: the immediate data is all that was asked for and came. FIELD where MaxOutstandingR2T is 0 or above 8.
-pub fn make(given: TaskGiven, immediate: u32) -> MakeAnswer
+pub fn make(given: TaskGiven, immediate: u32) -> Result<Task, Refusal>
     ensures { (tags ends : List ℕ) → making_of tags ends result ≡ making given immediate }
 {
     let most = given.max_outstanding_r2t;
     if (0 < most) & (most <= MOST_OPEN) {
-        MakeAnswer::Made(Task {
-            given: given,
+        Ok(Task {
+            given,
             numbering: Numbering {
                 sent: 0,
                 acknowledged: 0,
@@ -124,11 +133,12 @@ pub fn make(given: TaskGiven, immediate: u32) -> MakeAnswer
             open_count: 0,
         })
     } else {
-        MakeAnswer::Refused(Refusal::Field)
+        Err(Refusal::Field)
     }
 }
 
 // ExpDataSN of a SCSI Response: the count of Data-In and R2T sent; 0 where the command wasn't completed at the target, or no Data-In was sent.
+#[tactic(auto, unfolding(task_book::specs::Steps::exp_data_sn_of))]
 pub fn exp_data_sn(n: Numbering, response: u8) -> u32
     ensures { result ≡ exp_data_sn_of n response }
 {

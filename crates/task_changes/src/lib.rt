@@ -1,22 +1,24 @@
 // What a data call changes of the words of a task's record: what is new is written, every other word stays.
 #![tactic(auto)]
 
-ghost use Rattle.std.specs.Prelude.{◌≡◌, length};
+ghost use Rattle.std.specs.Prelude.{◌≡◌};
 ghost use Rattle.task.specs.Agree.{with_data_in, with_r2t, with_data_out};
 ghost use Rattle.task_words.specs.TaskWords.{task_of};
 
 use task_book::{DataInSequence, DataOutSequence, Numbering};
-use task_words::flag_word;
 
 // Keeps what a Data-In, a DataACK or a SNACK of type 3 changes of the record.
-pub fn store_data_in(n: &mut [u32], w: &mut [u64], numbering: Numbering, sequence: DataInSequence)
-    requires { (length n.old ≡ 12) × (length w.old ≡ 4) }
+pub fn store_data_in(
+    n: &mut [u32; 12],
+    w: &mut [u64; 4],
+    numbering: Numbering,
+    sequence: DataInSequence,
+)
     ensures { task_of n.new w.new ≡ with_data_in (task_of n.old w.old) numbering sequence }
 {
-    let any_data_in = flag_word(numbering.any_data_in);
     n[4] = numbering.sent;
     n[5] = numbering.acknowledged;
-    n[6] = any_data_in;
+    n[6] = numbering.any_data_in as u32;
     n[7] = numbering.snack_tag;
     n[8] = sequence.burst;
     w[1] = sequence.offset;
@@ -24,19 +26,17 @@ pub fn store_data_in(n: &mut [u32], w: &mut [u64], numbering: Numbering, sequenc
 
 // Keeps what an R2T changes of the record.
 pub fn store_r2t(
-    n: &mut [u32],
-    w: &mut [u64],
+    n: &mut [u32; 12],
+    w: &mut [u64; 4],
     numbering: Numbering,
     sequence: DataOutSequence,
     opened: u32,
 )
-    requires { (length n.old ≡ 12) × (length w.old ≡ 4) }
     ensures { task_of n.new w.new ≡ with_r2t (task_of n.old w.old) numbering sequence opened }
 {
-    let any_data_in = flag_word(numbering.any_data_in);
     n[4] = numbering.sent;
     n[5] = numbering.acknowledged;
-    n[6] = any_data_in;
+    n[6] = numbering.any_data_in as u32;
     n[7] = numbering.snack_tag;
     n[9] = sequence.data_sn;
     n[11] = opened;
@@ -46,13 +46,12 @@ pub fn store_r2t(
 
 // Keeps what a Data-Out changes of the record.
 pub fn store_data_out(
-    n: &mut [u32],
-    w: &mut [u64],
+    n: &mut [u32; 12],
+    w: &mut [u64; 4],
     sequence: DataOutSequence,
     first_open: u32,
     open_count: u32,
 )
-    requires { (length n.old ≡ 12) × (length w.old ≡ 4) }
     ensures { task_of n.new w.new ≡ with_data_out (task_of n.old w.old) sequence first_open open_count }
 {
     n[9] = sequence.data_sn;

@@ -6,12 +6,10 @@ ghost use Rattle.std.specs.Prelude.{◌≡◌, List, ℕ};
 ghost use Rattle.task_book.specs.Steps.{data_out_ok, data_out_step};
 ghost use Rattle.task.specs.Agree.{record_of, data_out_step_of};
 
+use refusal::Refusal;
 use request_header::DataOut;
 use task::{DataOutAnswer, LAST_NUMBER, MOST_OPEN, OPEN_PLACES, Task};
 use task_book::DataOutSequence;
-
-// The number of FIELD.
-const FIELD: u32 = 3;
 
 // Takes a Data-Out that answers the oldest open R2T: where its data lies. With F that R2T is answered whole, and no longer open. FIELD where none is
 // open, and as `data_out_ok` says.
@@ -29,44 +27,35 @@ pub fn data_out(
     let first = t.first_open;
     let count = t.open_count;
     if count == 0 {
-        return DataOutAnswer::Refused(FIELD);
+        return DataOutAnswer::from(Refusal::Field);
     }
     let oldest = (first % MOST_OPEN) as usize;
     if !data_out_ok(t, tags[oldest], ends[oldest], initiator_task_tag, p, length) {
-        return DataOutAnswer::Refused(FIELD);
+        return DataOutAnswer::from(Refusal::Field);
     }
     let s = t.data_out;
     let offset = p.buffer_offset;
-    let came = offset as u64 + length as u64;
-    if p.is_final {
-        DataOutAnswer::Came {
-            offset: offset,
-            count: length,
-            sequence: DataOutSequence {
-                asked: s.asked,
-                came: came,
-                data_sn: 0,
-            },
-            first_open: (first % MOST_OPEN + 1) % MOST_OPEN,
-            open_count: count - 1,
-        }
+    let (data_sn, first_open, open_count) = if p.is_final {
+        (0, (first % MOST_OPEN + 1) % MOST_OPEN, count - 1)
     } else {
-        DataOutAnswer::Came {
-            offset: offset,
-            count: length,
-            sequence: DataOutSequence {
-                asked: s.asked,
-                came: came,
-                data_sn: s.data_sn + 1,
-            },
-            first_open: first,
-            open_count: count,
-        }
+        (s.data_sn + 1, first, count)
+    };
+    DataOutAnswer::Came {
+        offset,
+        count: length,
+        sequence: DataOutSequence {
+            came: offset as u64 + length as u64,
+            data_sn,
+            ..s
+        },
+        first_open,
+        open_count,
     }
 }
 
 // Whether a Data-Out answers the R2T with this tag and end: the task's Initiator Task Tag, the R2T's tag, the number and the offset that are due, and
 // F exactly at the R2T's end.
+#[tactic(auto, unfolding(task_book::specs::Steps::data_out_ok))]
 fn data_out_ok(
     t: Task,
     tag: u32,

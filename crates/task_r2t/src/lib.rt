@@ -10,26 +10,27 @@ ghost use Rattle.task_r2t.specs.R2T.{R2TFits, Opened, R2TSent};
 
 use field::NONE;
 use refusal::Refusal;
-use task::{LAST_NUMBER, MOST_OPEN, OFFSET_END, OPEN_PLACES, R2tAnswer, Task};
+use task::{LAST_NUMBER, MOST_OPEN, OFFSET_END, OPEN_PLACES, R2tSent, Task};
 use task_book::{DataOutSequence, Numbering};
 
 // Sends an R2T: its header, with the next number and the offset up to which was asked, and opens it. FIELD as `r2t_ok` says; a refusal leaves
 // the arrays.
+#[tactic(auto, unfolding(task_book::specs::Steps::r2t_step))]
 pub fn r2t(
     t: Task,
     tag: u32,
     length: u32,
     tags: &mut [u32; OPEN_PLACES],
     ends: &mut [u64; OPEN_PLACES],
-) -> R2tAnswer
+) -> Result<R2tSent, Refusal>
     ensures { R2TDone t tag length tags.old ends.old result tags.new ends.new }
 {
     if r2t_ok(t, tag, length) {
         let sent = r2t_sent(t, tag, length);
         push(t, tag, length, tags, ends);
-        sent
+        Ok(sent)
     } else {
-        R2tAnswer::Refused(Refusal::Field)
+        Err(Refusal::Field)
     }
 }
 
@@ -50,14 +51,14 @@ fn r2t_ok(t: Task, tag: u32, length: u32) -> bool
 }
 
 // The answer to an R2T that is sent, once it is opened in the arrays.
-fn r2t_sent(t: Task, tag: u32, length: u32) -> R2tAnswer
+fn r2t_sent(t: Task, tag: u32, length: u32) -> R2tSent
     requires { R2TFits t length }
     ensures { R2TSent t tag length result }
 {
     let given = t.given;
     let n = t.numbering;
     let s = t.data_out;
-    R2tAnswer::Sent {
+    R2tSent {
         header: response_header::R2t {
             lun: given.lun,
             initiator_task_tag: given.initiator_task_tag,
@@ -68,14 +69,11 @@ fn r2t_sent(t: Task, tag: u32, length: u32) -> R2tAnswer
         },
         numbering: Numbering {
             sent: n.sent + 1,
-            acknowledged: n.acknowledged,
-            any_data_in: n.any_data_in,
-            snack_tag: n.snack_tag,
+            ..n
         },
         sequence: DataOutSequence {
             asked: s.asked + length as u64,
-            came: s.came,
-            data_sn: s.data_sn,
+            ..s
         },
         open_count: t.open_count + 1,
     }

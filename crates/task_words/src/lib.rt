@@ -3,20 +3,13 @@
 #![tactic(auto)]
 
 ghost use Rattle.std.specs.Prelude.{◌≡◌};
-ghost use Rattle.words.specs.Words.{flag_word};
 ghost use Rattle.task_words.specs.TaskWords.{task_of, task_numbers, task_wide};
 
 use task::Task;
 use task_book::{DataInSequence, DataOutSequence, Numbering, TaskGiven};
 
-// A flag as a word.
-pub fn flag_word(on: bool) -> u32
-    ensures { result ≡ flag_word on }
-{
-    if on { 1 } else { 0 }
-}
-
 // The record that the words are.
+#[tactic(auto, unfolding(crate::specs::TaskWords::task_of))]
 pub fn load(n: &[u32; 12], w: &[u64; 4]) -> Task
     ensures { result ≡ task_of n.now w.now }
 {
@@ -52,24 +45,24 @@ pub fn load(n: &[u32; 12], w: &[u64; 4]) -> Task
 pub fn store(n: &mut [u32; 12], w: &mut [u64; 4], t: Task)
     ensures { (n.new ≡ task_numbers t) × (w.new ≡ task_wide t) × (task_of n.new w.new ≡ t) }
 {
-    let given = t.given;
-    let numbering = t.numbering;
-    let data_in = t.data_in;
-    let data_out = t.data_out;
-    let any_data_in = flag_word(numbering.any_data_in);
     *n = [
-        given.initiator_task_tag,
-        given.transfer_tag,
-        given.max_burst_length,
-        given.max_outstanding_r2t,
-        numbering.sent,
-        numbering.acknowledged,
-        any_data_in,
-        numbering.snack_tag,
-        data_in.burst,
-        data_out.data_sn,
+        t.given.initiator_task_tag,
+        t.given.transfer_tag,
+        t.given.max_burst_length,
+        t.given.max_outstanding_r2t,
+        t.numbering.sent,
+        t.numbering.acknowledged,
+        t.numbering.any_data_in as u32,
+        t.numbering.snack_tag,
+        t.data_in.burst,
+        t.data_out.data_sn,
         t.first_open,
         t.open_count,
     ];
-    *w = [given.lun, data_in.offset, data_out.asked, data_out.came];
+    *w = [
+        t.given.lun,
+        t.data_in.offset,
+        t.data_out.asked,
+        t.data_out.came,
+    ];
 }

@@ -1,35 +1,24 @@
 -- What one turn of a loop over a text does to the definitions that read it from the front.
 use mathlib.Core.Path.{◌≡◌, refl, sym, ap, ◌∙◌, ap₂}
 use mathlib.Core.Bool.{Bool, true, false, not, ◌&&◌, ◌||◌}
-use mathlib.Core.List.{List, [], ◌∷◌, ◌++◌, append_assoc}
+use mathlib.Core.List.{List, [], ◌∷◌, ◌++◌, append_assoc, append-nil}
 use Prim.Native.Nat.{ℕ, zero, suc, ◌+◌, ◌-◌, ◌<◌, ◌≤◌}
 use native.Mathlib.Numerals.{add-one}
 use native.Mathlib.Omega.{arith}
 use native.Mathlib.Nat.{not-suc-le-zero, add_assoc, zero-add}
-use borrow.Author.Tests.{eq-eqb, ne_eqb, eqb-true, eqb-false, lt-ltb, le-ltb, leb-true}
+use borrow.Author.Tests.{ne_eqb, eqb-true, eqb-false, lt-ltb, le-ltb, leb-true}
 use lib.ListN.{length, get_or, take, drop, set, drop_of_length-le, length-drop, length-append, take-append-drop}
 use lib.Seq.{drop-cons, drop-drop, take_all, drop-set-lt, take-suc-set}
 use lib.Dec.{eqb, ltb, leb, leb-suc-suc}
-use Rattle.text.specs.Text.{pick, before, after, has, same, all, items, onto, listed, Appended, within}
+use Rattle.std.proofs.lemmas.Slice.Eq.{bytes_eq-Decides}
+use Rattle.text.proofs.Words.{same_is_bytes_eq}
+use Rattle.text.specs.Text.{pick, before, after, has, same, all, Appended, within}
 
 pub drop-step : (s : List ℕ) (i : ℕ) → i < length s → drop i s ≡ get_or s i 0 ∷ drop (i + 1) s
 drop-step s i h = rw (add-one, drop-cons s i 0)
 
 pub drop-end : (s : List ℕ) (i : ℕ) → length s ≤ i → drop i s ≡ []
 drop-end s i h = drop_of_length-le s h
-
-module _ (x : ℕ) (s : List ℕ) (i : ℕ) where
-  pub before-hit : i < length s → get_or s i 0 ≡ x → length (before x (drop i s)) ≡ 0
-  unfolding before
-  before-hit h e = rw (drop-step s i h, eq-eqb (get_or s i 0) x e)
-
-  pub before-miss : i < length s → (get_or s i 0 ≡ x → ⊥) → length (before x (drop i s)) ≡ length (before x (drop (i + 1) s)) + 1
-  unfolding before
-  before-miss h n = rw (drop-step s i h, ne_eqb (get_or s i 0) x n) (sym (add-one _))
-
-  pub before-end : length s ≤ i → length (before x (drop i s)) ≡ 0
-  unfolding before
-  before-end h = rw (drop-end s i h)
 
 module _ (f : ℕ → Bool) (s : List ℕ) (i : ℕ) where
   pub all-step : i < length s → f (get_or s i 0) ≡ true → all f (drop i s) ≡ all f (drop (i + 1) s)
@@ -44,19 +33,6 @@ module _ (f : ℕ → Bool) (s : List ℕ) (i : ℕ) where
   unfolding all
   all_end h = rw (drop-end s i h)
 
-module _ (a b : List ℕ) (i : ℕ) where
-  pub same_step : i < length a → i < length b → get_or a i 0 ≡ get_or b i 0 → same (drop i a) (drop i b) ≡ same (drop (i + 1) a) (drop (i + 1) b)
-  unfolding same
-  same_step p q e = rw (drop-step a i p, drop-step b i q, eq-eqb (get_or a i 0) (get_or b i 0) e)
-
-  pub same-miss : i < length a → i < length b → (get_or a i 0 ≡ get_or b i 0 → ⊥) → same (drop i a) (drop i b) ≡ false
-  unfolding same
-  same-miss p q n = rw (drop-step a i p, drop-step b i q, ne_eqb (get_or a i 0) (get_or b i 0) n)
-
-  pub same_end : length a ≤ i → length b ≤ i → same (drop i a) (drop i b) ≡ true
-  unfolding same
-  same_end p q = rw (drop-end a i p, drop-end b i q)
-
 pub &&-true : (a : Bool) → (a && true) ≡ a
 &&-true true = refl
 &&-true false = refl
@@ -64,13 +40,6 @@ pub &&-true : (a : Bool) → (a && true) ≡ a
 pub &&-false : (a : Bool) → (a && false) ≡ false
 &&-false true = refl
 &&-false false = refl
-
-pub same-lengths : (a b : List ℕ) → (length a ≡ length b → ⊥) → same a b ≡ false
-unfolding same
-same-lengths [] [] n = absurd (n refl)
-same-lengths [] (y ∷ b) n = refl
-same-lengths (x ∷ a) [] n = refl
-same-lengths (x ∷ a) (y ∷ b) n = rw (same-lengths a b (λ e. n (ap suc e))) (&&-false (eqb x y))
 
 pub &&-left : (a b : Bool) → (a && b) ≡ true → a ≡ true
 &&-left true b e = refl
@@ -134,35 +103,6 @@ pub &&-right : (a b : Bool) → (a && b) ≡ true → b ≡ true
 &&-right true b e = e
 &&-right false b e = cc
 
--- A comma list is its first item and the list after the comma.
-items-go : (t h : Bool) (c : ℕ) (b s a : List ℕ) → items s ≡ b ∷ pick h (items a) []
-    → pick t ([] ∷ items s) (onto c (items s)) ≡ pick t [] (c ∷ b) ∷ pick (t || h) (items (pick t s a)) []
-items-go true h c b s a e = refl
-items-go false h c b s a e = rw e
-
-items-cut : (s : List ℕ) → items s ≡ before 44 s ∷ pick (has 44 s) (items (after 44 s)) []
-unfolding items before has after
-items-cut [] = refl
-items-cut (c ∷ s) = items-go (eqb c 44) (has 44 s) c (before 44 s) s (after 44 s) (items-cut s)
-
-module _ (w s : List ℕ) where
-  pub listed-hit : same (before 44 s) w ≡ true → listed w s ≡ true
-  unfolding listed
-  listed-hit e = rw (items-cut s, e)
-
-  pub listed-last : same (before 44 s) w ≡ false → has 44 s ≡ false → listed w s ≡ false
-  unfolding listed
-  listed-last e h = rw (items-cut s, e, h)
-
-  pub listed-step : same (before 44 s) w ≡ false → has 44 s ≡ true → listed w s ≡ listed w (after 44 s)
-  unfolding listed
-  listed-step e h = rw (items-cut s, e, h)
-
-pub listed-empty : (w : List ℕ) → listed w [] ≡ eqb (length w) 0
-unfolding listed items same
-listed-empty [] = refl
-listed-empty (x ∷ w) = sym (ne_eqb (suc (length w)) 0 (λ e. omega arith))
-
 -- A rule of tables, proved at every place below n by one test that antt computes.
 abbrev pub below : (ℕ → Bool) → ℕ → Bool
 below f zero = true
@@ -177,19 +117,11 @@ at f zero e k h = absurd (not-suc-le-zero h)
 at f (suc n) e k h = at-go f n k (&&-left (f n) (below f n) e) (at f n (&&-right (f n) (below f n) e) k) h (eqb k n) refl
 
 pub same-eq : (a b : List ℕ) → same a b ≡ true → a ≡ b
-unfolding same
-same-eq [] [] e = refl
-same-eq [] (y ∷ b) e = false-true e
-same-eq (x ∷ a) [] e = false-true e
-same-eq (x ∷ a) (y ∷ b) e = ap₂ (λ (h : ℕ) (t : List ℕ). h ∷ t) (eqb-true x y (&&-left (eqb x y) (same a b) e)) (same-eq a b (&&-right (eqb x y) (same a b) e))
-
-onto-none : (a : List ℕ) → a ++ [] ≡ a
-onto-none [] = refl
-onto-none (x ∷ a) = ap (λ (r : List ℕ). x ∷ r) (onto-none a)
+same-eq a b e = (bytes_eq-Decides a b).0 (sym (same_is_bytes_eq a b) ∙ e)
 
 -- Nothing was put.
 pub appended-none : (o : List ℕ) (at : ℕ) → Appended o at [] o at
-appended-none o at = record { count = omega arith; text = sym (onto-none (take at o)); rest = refl }
+appended-none o at = record { count = omega arith; text = sym (append-nil (take at o)); rest = refl }
 
 -- One byte was put.
 pub appended_one : (o : List ℕ) (at x : ℕ) → at < length o → Appended o at (x ∷ []) (set o at x) (at + 1)

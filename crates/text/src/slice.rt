@@ -6,61 +6,31 @@ ghost use Rattle.text.specs.Text.{before, same, listed, Appended};
 pub fn find(s: &[u8], x: u8) -> usize
     ensures { (result ≡ length (before x s.now)) × (result ≤ length s.now) }
 {
-    let mut i = 0;
-    while i < s.len() {
-        if s[i] == x {
-            return i;
-        }
-        i += 1;
-    }
-    i
+    s.iter().position(|b| *b == x).unwrap_or(s.len())
 }
 
 // The two are the same bytes, compared whole and with case.
+#[tactic(auto, using(crate::proofs::Words::same_is_bytes_eq))]
 pub fn same_bytes(a: &[u8], b: &[u8]) -> bool
     ensures { result ≡ same a.now b.now }
 {
-    if a.len() != b.len() {
-        return false;
-    }
-    let mut i = 0;
-    while i < a.len() {
-        if a[i] != b[i] {
-            return false;
-        }
-        i += 1;
-    }
-    true
+    a == b
 }
 
 // w is an item of the comma list s; items are compared exactly, nothing is trimmed.
 pub fn lists(s: &[u8], w: &[u8]) -> bool
     ensures { result ≡ listed w.now s.now }
 {
-    let mut at = 0;
-    while at < s.len() {
-        let rest = &s[at..];
-        let e = find(rest, 44);
-        if same_bytes(&rest[..e], w) {
-            return true;
-        }
-        if e == rest.len() {
-            return false;
-        }
-        at = at + e + 1;
-    }
-    w.len() == 0
+    s.split(|b| *b == b',').any(|item| item == w)
 }
 
 // Puts b after the first `at` bytes of an output, and gives the new count.
+#[tactic(auto, using(std::proofs::lemmas::Slice::overwrites))]
 pub fn append(out: &mut [u8], at: usize, b: &[u8]) -> usize
     requires { at + length b.now ≤ length out.old }
     ensures { Appended out.old at b.now out.new result }
 {
-    let mut i = 0;
-    while i < b.len() {
-        out[at + i] = b[i];
-        i += 1;
-    }
-    at + b.len()
+    let end = at + b.len();
+    out[at..end].copy_from_slice(b);
+    end
 }

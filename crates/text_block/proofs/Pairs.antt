@@ -1,17 +1,19 @@
 -- The first pair of a text, and one turn of a loop over the pairs.
 use mathlib.Core.Path.{◌≡◌, refl, sym, ap, ◌∙◌}
-use mathlib.Core.Bool.{Bool, true, false, ◌&&◌}
+use mathlib.Core.Bool.{Bool, true, false, ◌&&◌, ◌||◌}
 use mathlib.Core.List.{List, [], ◌∷◌, ◌++◌}
 use Prim.Native.Nat.{ℕ, zero, suc, ◌+◌, ◌-◌, ◌<◌, ◌≤◌}
 use native.Mathlib.Numerals.{add-one}
 use native.Mathlib.Omega.{arith}
-use borrow.Author.Tests.{eq-eqb, ne_eqb, leb-true, ltb-true}
-use lib.ListN.{length, take, drop, length-drop}
+use native.Mathlib.Nat.{zero-add}
+use borrow.Author.Tests.{eq-eqb, ne_eqb, le-leb, leb-true, ltb-true}
+use lib.ListN.{length, get_or, take, drop, length-drop}
 use lib.Seq.{drop-drop}
-use lib.Dec.{leb}
-use Rattle.text.specs.Text.{before, after, has}
-use Rattle.text_block.specs.Block.{name_in, value_in, rest_of, end_in, whole_first, good_first, good_name, formed, empty}
-use Rattle.text.proofs.Laws.{&&-left, take-before, take_past, drop-before, &&-right, has-before, length-after, here}
+use lib.Dec.{leb, eqb}
+use Rattle.std.proofs.lemmas.Bool.Decides.{nat_tests}
+use Rattle.text.specs.Text.{before, after, has, all}
+use Rattle.text_block.specs.Block.{name_in, value_in, rest_of, end_in, whole_first, good_first, good_name, name_byte, formed, empty}
+use Rattle.text.proofs.Laws.{&&-left, take-before, take_past, drop-before, &&-right, has-before, length-after, here, rest_part}
 
 -- After a good first pair comes the rest of the text.
 pub rest_at : (s : List ℕ) (k e : ℕ) → e ≡ length (name_in (drop k s)) + 1 + length (value_in (drop k s)) → drop (k + e + 1) s ≡ rest_of (drop k s)
@@ -52,6 +54,11 @@ unfolding formed
 formed-end zero s k h = none s k h
 formed-end (suc n) s k h = rw (none s k h)
 
+-- One turn of a loop that goes on with what follows a good pair.
+pub formed_rest : (n e : ℕ) (s : List ℕ) → 0 < length s → good_first s ≡ true → e ≡ length (name_in s) + 1 + length (value_in s)
+    → formed (suc n) s ≡ formed n (drop (e + 1) s)
+formed_rest n e s h g q = rw zero-add at (formed-step s 0 h n e g q)
+
 -- A first pair is good if its name is, and the rest of its form.
 good-go : (a b c d : Bool) → (((a && b) && c) && d) ≡ (a && ((b && c) && d))
 good-go true b c d = refl
@@ -79,6 +86,25 @@ module _ (s : List ℕ) (w : whole_first s ≡ true) where
       let h : length (before 0 (after 61 s)) < length (after 61 s) = ltb-true _ _ (sym (has-before 0 (after 61 s)) ∙ z) in
       omega (arith, h, length-after 61 s)
 
+-- A name that begins with an upper-case letter, and not with X#, is good if the bytes after the first are name bytes.
+or-false : (a : Bool) → (a || false) ≡ a
+or-false true = refl
+or-false false = refl
+
+upper-go : (n : List ℕ) → length n ≤ 63 → 1 ≤ length n → 65 ≤ get_or n 0 0 → get_or n 0 0 ≤ 90
+    → (2 ≤ length n → get_or n 0 0 ≡ 88 → get_or n 1 0 ≡ 35 → ⊥) → good_name n ≡ all name_byte (drop 1 n)
+unfolding good_name all
+upper-go [] m l a b t = absurd (omega (arith, l))
+upper-go (x ∷ []) m l a b t = rw (le-leb 65 x a, le-leb x 90 b)
+upper-go (x ∷ y ∷ n) m l a b t =
+    let h : (eqb x 88 && eqb y 35) ≡ false = grind (arith, nat_tests, t (omega arith)) in
+    let o : eqb (suc (suc (length n))) 1 ≡ false = ne_eqb _ _ (λ e. omega (arith, e)) in
+    rw (le-leb 65 x a, le-leb x 90 b, le-leb (suc (suc (length n))) 63 m, le-leb 1 (suc (suc (length n))) l, h, o, or-false)
+
+pub good_upper : (n : List ℕ) → length n ≤ 63 → 1 ≤ length n → 65 ≤ get_or n 0 0 → get_or n 0 0 ≤ 90
+    → (2 ≤ length n → get_or n 0 0 ≡ 88 → get_or n 1 0 ≡ 35 → ⊥) → good_name n ≡ all name_byte (take (length n - 1) (drop 1 n))
+good_upper n m l a b t = rw rest_part (upper-go n m l a b t)
+
 -- a good name is short
 good-short : (n : List ℕ) → good_name n ≡ true → length n ≤ 63
 unfolding good_name
@@ -86,6 +112,10 @@ good-short n e = leb-true _ 63 (&&-right (leb 1 (length n)) _ (&&-left _ _ (&&-l
 
 pub name-short : (s : List ℕ) → good_first s ≡ true → length (name_in s) ≤ 63
 name-short s e = good-short (name_in s) (&&-left (good_name (name_in s)) _ (sym (good-first s) ∙ e))
+
+-- What follows the first =.
+pub tail_is : (s : List ℕ) (eq : ℕ) → eq ≡ length (name_in s) → take (length s - (eq + 1)) (drop (eq + 1) s) ≡ after 61 s
+tail_is s eq n = rest_part (eq + 1) s ∙ rw n (drop-before 61 s)
 
 -- The name and the value, as parts of the text.
 module _ (s : List ℕ) {eq : ℕ} (n : eq ≡ length (name_in s)) where

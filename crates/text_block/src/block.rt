@@ -8,114 +8,96 @@ use text::slice::find;
 
 pub const MAX_PAIRS: usize = 64;
 
+// The most bytes of a value.
+const MAX_VALUE: usize = 255;
+
+// The most bytes of a name.
+const MAX_NAME: usize = 63;
+
+// Without a branch: as a match of ranges a name of 19 bytes took 62 to 82 ns and not 54 to 57.
+#[tactic(auto, unfolding(crate::specs::Block::name_byte))]
 fn is_name_byte(b: u8) -> bool
     ensures { result ≡ name_byte b }
 {
-    ((b >= 65) & (b <= 90))
-        | ((b >= 97) & (b <= 122))
-        | ((b >= 48) & (b <= 57))
-        | (b == 46)
-        | (b == 45)
-        | (b == 43)
-        | (b == 64)
-        | (b == 95)
+    ((b >= b'A') & (b <= b'Z'))
+        | ((b >= b'a') & (b <= b'z'))
+        | ((b >= b'0') & (b <= b'9'))
+        | (b == b'.')
+        | (b == b'-')
+        | (b == b'+')
+        | (b == b'@')
+        | (b == b'_')
 }
 
-// Every byte from the third on is a name byte.
-fn tail_good(s: &[u8]) -> bool
-    ensures { result ≡ all name_byte (drop 2 s.now) }
+#[tactic(auto, using(text::proofs::Words::all_is_list_all))]
+fn name_bytes(s: &[u8]) -> bool
+    ensures { result ≡ all name_byte s.now }
 {
-    let mut i = 2;
-    while i < s.len() {
-        if !is_name_byte(s[i]) {
-            return false;
-        }
-        i += 1;
-    }
-    true
+    s.iter().all(|b| is_name_byte(*b))
 }
 
-// The form of a name.
+// The form of a name: an upper-case letter, or X#, and then name bytes.
+#[tactic(auto, using(crate::proofs::Pairs::good_upper), unfolding(crate::specs::Block::good_name))]
 pub fn name_good(s: &[u8]) -> bool
     ensures { result ≡ good_name s.now }
 {
-    let n = s.len();
-    if n < 1 {
+    if MAX_NAME < s.len() {
         return false;
     }
-    if 63 < n {
-        return false;
+    match s {
+        [b'X', b'#', tail @ ..] => name_bytes(tail),
+        [b'A'..=b'Z', tail @ ..] => name_bytes(tail),
+        _ => false,
     }
-    let a = s[0];
-    let upper = (a >= 65) & (a <= 90);
-    if n == 1 {
-        return upper;
-    }
-    let b = s[1];
-    upper & (is_name_byte(b) | ((a == 88) & (b == 35))) & tail_good(s)
 }
 
-// The first pair of a text: its name ends before eq, its value before end; ok if its form is good.
+// Where the first pair of a text ends its name and its value: before the first =, and before the first zero byte after that.
 #[derive(Clone, Copy)]
 pub struct Span {
     pub eq: usize,
     pub end: usize,
-    pub ok: bool,
 }
 
-// The same, whatever the name is: ok if = is there, the value is not too long, and a zero byte follows it.
-pub fn cut_pair(s: &[u8]) -> Span
+// The first pair of a text, whatever its name is: none where no = is there, the value is too long, or no zero byte follows it.
+pub fn cut_pair(s: &[u8]) -> Option<Span>
     ensures { SpanOf s.now (whole_first s.now) result }
 {
-    let eq = find(s, 61);
+    let eq = find(s, b'=');
     if eq == s.len() {
-        return Span {
-            eq,
-            end: eq,
-            ok: false,
-        };
+        return None;
     }
     let tail = &s[eq + 1..];
     let n = find(tail, 0);
-    Span {
+    if MAX_VALUE < n || n == tail.len() {
+        return None;
+    }
+    Some(Span {
         eq,
         end: eq + 1 + n,
-        ok: (n <= 255) & (n < tail.len()),
-    }
+    })
 }
 
-fn first_pair(s: &[u8]) -> Span
+// The first pair, if its form is good.
+fn first_pair(s: &[u8]) -> Option<Span>
     ensures { SpanOf s.now (good_first s.now) result }
 {
-    let p = cut_pair(s);
-    if !p.ok {
-        return p;
-    }
-    let eq = p.eq;
-    let named = name_good(&s[..eq]);
-    Span {
-        eq,
-        end: p.end,
-        ok: named,
-    }
+    let p = cut_pair(s)?;
+    if name_good(&s[..p.eq]) { Some(p) } else { None }
 }
 
 // The form of a whole block.
 pub fn well_formed(s: &[u8]) -> bool
     ensures { result ≡ formed 64 s.now }
 {
-    let mut at = 0;
-    let mut n: usize = 0;
-    while at < s.len() {
-        if n == MAX_PAIRS {
-            return false;
+    let mut rest = s;
+    for _ in 0..MAX_PAIRS {
+        if rest.is_empty() {
+            return true;
         }
-        let p = first_pair(&s[at..]);
-        if !p.ok {
+        let Some(p) = first_pair(rest) else {
             return false;
-        }
-        at = at + p.end + 1;
-        n += 1;
+        };
+        rest = &rest[p.end + 1..];
     }
-    true
+    rest.is_empty()
 }

@@ -2,17 +2,17 @@
 use mathlib.Core.Path.{◌≡◌, sym, ap, ◌∙◌, ap₂}
 use mathlib.Core.Bool.{Bool, true, false}
 use mathlib.Core.List.{List, [], ◌∷◌, ◌++◌, append_assoc}
-use Prim.Native.Nat.{ℕ, zero, suc, ◌+◌, ◌-◌, ◌*◌, ◌/◌, ◌%◌, ◌^◌, ◌<◌, ◌≤◌}
+use Prim.Native.Nat.{ℕ, zero, suc, ◌+◌, ◌*◌, ◌/◌, ◌%◌, ◌^◌, ◌<◌, ◌≤◌}
 use native.Mathlib.Numerals.{add-one}
 use native.Mathlib.Omega.{arith}
-use native.Mathlib.Nat.{mul-le-mul_left, div-lt_iff_lt-mul, le-div_iff_mul-le}
+use native.Mathlib.Nat.{mul-le-mul_left}
 use borrow.Author.Tests.{lt-ltb, le-ltb, le-leb}
 use lib.ListN.{length, get_or, drop, set, length-set, length-append}
 use lib.Seq.{drop-cons, get_or-set_same, drop-set-lt}
 use lib.Dec.{ltb}
 use Rattle.text.specs.Text.{pick, all}
 use Rattle.text_number.specs.Number.{worth, digit_of, is_digit, number_in, decimal}
-use Rattle.text_number.specs.declared.number.Number.TheVariants.{Value, Bad}
+use Rattle.std.specs.Prelude.{Some, None}
 use Rattle.text.proofs.Laws.{drop-step, drop-end, &&-false}
 
 pub worth-step : (base v : ℕ) (s : List ℕ) (i : ℕ) → i < length s → worth base v (drop i s) ≡ worth base (v * base + digit_of (get_or s i 0)) (drop (i + 1) s)
@@ -32,25 +32,27 @@ worth-grows base v (b ∷ s) h =
     omega (arith, worth-grows base (v * base + digit_of b) s h, m)
 
 module _ (base : ℕ) (s : List ℕ) where
-  pub number-other : all (is_digit base) s ≡ false → number_in base s ≡ Bad
+  pub number-empty : length s ≡ 0 → number_in base s ≡ None
+  unfolding number_in
+  number-empty e = rw e
+
+  pub number-other : all (is_digit base) s ≡ false → number_in base s ≡ None
   unfolding number_in
   number-other e = rw (e, &&-false)
 
-  pub number-large : 2 ^ 64 ≤ worth base 0 s → number_in base s ≡ Bad
+  pub number-large : 2 ^ 64 ≤ worth base 0 s → number_in base s ≡ None
   unfolding number_in
   number-large h = rw (le-ltb (worth base 0 s) (2 ^ 64) h, &&-false)
 
-  pub number-good : (v : ℕ) → 1 ≤ length s → all (is_digit base) s ≡ true → worth base 0 s ≡ v → v < 2 ^ 64 → number_in base s ≡ Value v
+  pub number-good : (v : ℕ) → 1 ≤ length s → all (is_digit base) s ≡ true → worth base 0 s ≡ v → v < 2 ^ 64 → number_in base s ≡ Some v
   unfolding number_in
   number-good v n a e h = rw (e, a, le-leb 1 (length s) n, lt-ltb v (2 ^ 64) h)
 
--- the test against the largest number says exactly whether one digit more fits
-module _ (v base d m : ℕ) (p : 1 ≤ base) (q : d ≤ m) where
-  pub digit-fits : v ≤ (m - d) / base → v * base + d ≤ m
-  digit-fits h = let k : v * base ≤ m - d = (le-div_iff_mul-le {k = base} {x = v} {y = m - d} p).0 h in omega arith
-
-  pub digit-over : (m - d) / base < v → m < v * base + d
-  digit-over h = let k : m - d < v * base = (div-lt_iff_lt-mul {k = base} {x = m - d} {y = v} p).0 h in omega arith
+-- What was read and one digit more is 2^64 or more, and so is the whole.
+pub large-step : (base v : ℕ) (s : List ℕ) (i : ℕ) → 1 ≤ base → i < length s → 2 ^ 64 ≤ v * base + digit_of (get_or s i 0)
+    → worth base v (drop i s) ≡ worth base 0 s → 2 ^ 64 ≤ worth base 0 s
+large-step base v s i p h o e =
+    omega (arith, o, e, worth-step base v s i h, worth-grows base (v * base + digit_of (get_or s i 0)) (drop (i + 1) s) p)
 
 -- Decimal digits from the last.
 drop-set : (l : List ℕ) (i x : ℕ) → i < length l → drop i (set l i x) ≡ x ∷ drop (i + 1) l

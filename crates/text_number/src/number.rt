@@ -5,67 +5,47 @@ ghost use Rattle.text_number.specs.Number.{digit_of, number_in, number_of, decim
 
 use text::slice::append;
 
-#[derive(Clone, Copy)]
-pub enum Number {
-    Value(u64),
-    Bad,
-}
-
 // The value of a digit or a hex digit; 16 for any other byte.
 fn digit(b: u8) -> u64
     ensures { result ≡ digit_of b }
 {
-    if (b >= 48) & (b <= 57) {
-        return b as u64 - 48;
+    match b {
+        b'0'..=b'9' => b as u64 - 48,
+        b'A'..=b'F' => b as u64 - 55,
+        b'a'..=b'f' => b as u64 - 87,
+        _ => 16,
     }
-    if (b >= 65) & (b <= 70) {
-        return b as u64 - 55;
-    }
-    if (b >= 97) & (b <= 102) {
-        return b as u64 - 87;
-    }
-    16
 }
 
-// All of s as digits of a number in this base; a value of 2^64 or more is bad.
-fn number_in(base: u64, s: &[u8]) -> Number
+// All of s as digits of a number in this base; none where its value is 2^64 or more.
+fn number_in(base: u64, s: &[u8]) -> Option<u64>
     requires { (1 ≤ base) × (base ≤ 16) }
     ensures { result ≡ number_in base s.now }
 {
-    if s.len() == 0 {
-        return Number::Bad;
+    if s.is_empty() {
+        return None;
     }
     let mut v: u64 = 0;
-    let mut i = 0;
-    while i < s.len() {
-        let d = digit(s[i]);
+    for b in s {
+        let d = digit(*b);
         if base <= d {
-            return Number::Bad;
+            return None;
         }
-        if (0xffff_ffff_ffff_ffff - d) / base < v {
-            return Number::Bad;
-        }
-        v = v * base + d;
-        i += 1;
+        v = v.checked_mul(base)?.checked_add(d)?;
     }
-    Number::Value(v)
+    Some(v)
 }
 
 // A value as a number: 0, or digits not starting with 0, or 0x or 0X and at least one hex digit, below 2^64.
-pub fn number_of(s: &[u8]) -> Number
+#[tactic(auto, unfolding(crate::specs::Number::number_of))]
+pub fn number_of(s: &[u8]) -> Option<u64>
     ensures { result ≡ number_of s.now }
 {
-    if s.len() < 2 {
-        return number_in(10, s);
+    match s {
+        [b'0', b'x' | b'X', digits @ ..] => number_in(16, digits),
+        [b'0', _, ..] => None,
+        _ => number_in(10, s),
     }
-    if s[0] != 48 {
-        return number_in(10, s);
-    }
-    let x = s[1];
-    if (x == 120) | (x == 88) {
-        return number_in(16, &s[2..]);
-    }
-    Number::Bad
 }
 
 // n in decimal, after the first `at` bytes of an output.
@@ -73,14 +53,15 @@ pub fn put_decimal(out: &mut [u8], at: usize, n: u32) -> usize
     requires { at + 10 ≤ length out.old }
     ensures { Appended out.old at (decimal 10 n) out.new result }
 {
-    let mut digits = [48u8; 10];
+    let mut digits = [b'0'; 10];
     let mut i = 9;
     let mut rest = n;
+    // The measure is what is left, not a count of places.
     while 10 <= rest {
-        digits[i] = 48 + (rest % 10) as u8;
-        rest = rest / 10;
+        digits[i] = b'0' + (rest % 10) as u8;
+        rest /= 10;
         i -= 1;
     }
-    digits[i] = 48 + rest as u8;
+    digits[i] = b'0' + rest as u8;
     append(out, at, &digits[i..])
 }

@@ -14,7 +14,6 @@ ghost use Rattle.transfer_words.specs.Moves.{Moves, Makes, task_given_of};
 
 use answer_words::DONE;
 use session_words::load;
-use task::{DataInAnswer, MakeAnswer, R2tAnswer};
 use task_book::TaskGiven;
 use task_changes::{store_data_in, store_r2t};
 
@@ -34,15 +33,15 @@ pub fn make(
         (task_words task.old wide.old tags ends) (packed result) (task_words task.new wide.new tags ends) }
 {
     let given = TaskGiven {
-        initiator_task_tag: initiator_task_tag,
-        lun: lun,
-        transfer_tag: transfer_tag,
-        max_burst_length: max_burst_length,
+        initiator_task_tag,
+        lun,
+        transfer_tag,
+        max_burst_length,
         max_outstanding_r2t: max_outstanding_r2t as u32,
     };
     match task::make(given, immediate) {
-        MakeAnswer::Refused(f) => answer_words::pack_refused(f),
-        MakeAnswer::Made(t) => {
+        Err(f) => answer_words::pack_refused(f),
+        Ok(t) => {
             task_words::store(task, wide, t);
             answer_words::pack(DONE, 0)
         }
@@ -71,13 +70,9 @@ pub fn data_in(
     let s = load(n, m);
     let t = task_words::load(task, wide);
     match session_data_in::data_in(s, conn, t, is_final, acknowledge, length, out) {
-        DataInAnswer::Refused(f) => answer_words::pack_refused(f),
-        DataInAnswer::Sent {
-            header: _,
-            numbering,
-            sequence,
-        } => {
-            store_data_in(task, wide, numbering, sequence);
+        Err(f) => answer_words::pack_refused(f),
+        Ok(sent) => {
+            store_data_in(task, wide, sent.numbering, sent.sequence);
             answer_words::pack(DONE, 0)
         }
     }
@@ -106,14 +101,9 @@ pub fn r2t(
     let s = load(n, m);
     let t = task_words::load(task, wide);
     match session_r2t::r2t(s, conn, t, tag, length, tags, ends, out) {
-        R2tAnswer::Refused(f) => answer_words::pack_refused(f),
-        R2tAnswer::Sent {
-            header: _,
-            numbering,
-            sequence,
-            open_count,
-        } => {
-            store_r2t(task, wide, numbering, sequence, open_count);
+        Err(f) => answer_words::pack_refused(f),
+        Ok(sent) => {
+            store_r2t(task, wide, sent.numbering, sent.sequence, sent.open_count);
             answer_words::pack(DONE, 0)
         }
     }

@@ -1,6 +1,6 @@
 -- Laws of the maps of a list of places. By induction on the place, with n / 2 and n % 2 for the bits that are left and the
 -- lowest.
-use Rattle.std.proofs.Common.{◌≡◌, ℕ, zero, suc, ◌/◌, ◌%◌, ◌^◌, ◌<◌, ◌≤◌, max, List, [], ◌∷◌, ◌++◌, length, get_or, drop, set, replicate, sym, refl, ap, ◌∙◌, arith, get_or-set_other, get_or-set_same}
+use Rattle.std.proofs.Common.{◌≡◌, ℕ, zero, suc, ◌/◌, ◌%◌, ◌^◌, ◌<◌, ◌≤◌, List, [], ◌∷◌, ◌++◌, length, get_or, drop, set, replicate, sym, refl, ap, ◌∙◌, arith, get_or-set_other, get_or-set_same}
 use native.Mathlib.Nat.{max-zero}
 use native.Mathlib.Decide.{ℕ_discrete}
 use lib.Bits.{bit_or}

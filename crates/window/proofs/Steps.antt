@@ -1,7 +1,8 @@
 -- What the steps of the code share: the book's step known whole, where a number lies, and what the bits of a place say.
-use Rattle.std.proofs.Common.{◌≡◌, ℕ, ◌+◌, ◌%◌, ◌^◌, ◌<◌, Bool, true, false, eqb, List, length, sym, refl, ap, ◌∙◌, subst, arith, eq-eqb, ne_eqb}
+use Rattle.std.proofs.Common.{◌≡◌, ℕ, ◌+◌, ◌-◌, ◌%◌, ◌^◌, Bool, true, false, eqb, List, length, sym, refl, ap, ◌∙◌, subst, arith, eq-eqb, ne_eqb}
 use native.Mathlib.Decide.{ℕ_discrete}
 use Rattle.window.specs.Book.{Origin, none, connection, Place, empty, holds, Book, next, distance, Call, Answer, Step, step, book_step, one-if, is_from}
+use Rattle.window.specs.declared.Window.{Window}
 use Rattle.window.specs.Agree.{State, held_bit, origin_bit, OriginAt, Agrees, MeetsAt}
 
 -- from the book's step, known whole
@@ -23,9 +24,12 @@ pub all-places : (s : State) (b : Book) → Agrees s b → length b.held ≡ 64
 all-places s b g = g.size ∙ g.share
 
 -- where a number lies, by the code's difference
-pub distance_is : (b : Book) (n d r : ℕ) → r ≡ next b → (d + r) % 2 ^ 32 ≡ n → d < 2 ^ 32 → distance b n ≡ d
-unfolding distance next
-distance_is b n d r e q l = omega arith
+abbrev pub difference : Window → ℕ → ℕ
+difference w n = (n + (2 ^ 32 - w.next)) % 2 ^ 32
+
+pub distance_is : (b : Book) (w : Window) (n : ℕ) → w.next ≡ next b → distance b n ≡ difference w n
+unfolding distance
+distance_is b w n e = rw e
 
 -- ---- a place's bits
 

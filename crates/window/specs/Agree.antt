@@ -1,6 +1,6 @@
 -- Follows the code: how its window, with the arrays lent to it, stands for a book. Bit d of each map is for the place d,
 -- and so is its slot.
-use Rattle.std.specs.Prelude.{◌≡◌, ℕ, ◌+◌, ◌-◌, ◌*◌, ◌%◌, ◌^◌, ◌≤◌, min, List, [], length, drop, replicate, slice_index, slice_index_or, slice_set}
+use Rattle.std.specs.Prelude.{◌≡◌, Option, Some, None, ℕ, ◌+◌, ◌-◌, ◌*◌, ◌%◌, ◌^◌, ◌≤◌, min, List, [], length, drop, replicate, slice_index, slice_index_or, slice_set}
 use Rattle.std.proofs.Math.Seq.{paste}
 use Rattle.store.specs.Slot.{header_size, in_slot}
 use Rattle.place_map.specs.Bit.{bit_at, with_bit}
@@ -10,8 +10,6 @@ use Rattle.window.specs.declared.Window.{Window}
 use Rattle.window.specs.declared.FreshWindow.{FreshWindow}
 use Rattle.window.specs.declared.Offered.{Offered}
 use Rattle.window.specs.declared.Offered.TheVariants.{Kept, Duplicate, Passed, Beyond}
-use Rattle.window.specs.declared.Origin as Code
-use Rattle.window.specs.declared.Origin.TheVariants as O
 use Rattle.window.specs.declared.Taken.{Taken}
 use Rattle.window.specs.declared.Taken.TheVariants.{Nothing, Void, Command as Out}
 
@@ -23,9 +21,9 @@ offer_answer Duplicate = duplicate
 offer_answer Passed = passed
 offer_answer Beyond = beyond
 
-abbrev pub origin_of : Code.Origin → Origin
-origin_of O.None = none
-origin_of (O.Connection c) = connection c
+abbrev pub origin_of : Option ℕ → Origin
+origin_of None = none
+origin_of (Some c) = connection c
 
 abbrev pub take_answer : Taken → Answer
 take_answer Nothing = nothing

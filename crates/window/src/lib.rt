@@ -4,10 +4,10 @@
 // `window_offer`, `window_take`, `window_logout`.
 #![tactic(auto)]
 
-ghost use Rattle.std.specs.Prelude.{◌≡◌, ◌<◌};
+ghost use Rattle.std.specs.Prelude.{◌≡◌, ◌<◌, slice_index_or};
 ghost use Rattle.window.specs.PlaceSlot.{slots, slot_of};
-ghost use Rattle.window.specs.Book.{Book, exp_cmd_sn_of, max_cmd_sn_of};
-ghost use Rattle.window.specs.Agree.{Agrees, IsFresh, Commands, state};
+ghost use Rattle.window.specs.Book.{Book, empty, exp_cmd_sn_of, max_cmd_sn_of};
+ghost use Rattle.window.specs.Agree.{Agrees, IsFresh, OriginAt, Commands, state, origin_of};
 
 // The numbers from R on that may be held.
 pub const PLACES: u32 = 64;
@@ -49,13 +49,6 @@ pub enum Offered {
     Beyond,
 }
 
-// The connection that a command came on, if it is still its own.
-#[derive(Clone, Copy)]
-pub enum Origin {
-    None,
-    Connection(u32),
-}
-
 #[derive(Clone, Copy)]
 pub enum Taken {
     Nothing,
@@ -63,7 +56,8 @@ pub enum Taken {
     Command {
         number: u32,
         ticket: u32,
-        origin: Origin,
+        // The connection that the command came on, if it is still its own.
+        origin: Option<u32>,
     },
 }
 
@@ -79,8 +73,8 @@ pub fn fresh(first: u32) -> FreshWindow
         origins: [0u64; CONNS],
     };
     FreshWindow {
-        window: window,
-        headers: [0u8; 3072],
+        window,
+        headers: [0u8; WINDOW_BYTES],
         tickets: [0u32; WINDOW_SLOTS],
     }
 }
@@ -89,21 +83,31 @@ pub fn fresh(first: u32) -> FreshWindow
 pub fn exp_cmd_sn(w: Window) -> u32
     ensures { (k : Commands) (b : Book) → Agrees (state w k) b → result ≡ exp_cmd_sn_of b }
 {
-    let gapless = place_map::gapless(w.held);
-    std::num::wrapping_add_u32(w.next, gapless)
+    w.next.wrapping_add(place_map::gapless(w.held))
 }
 
 // MaxCmdSN: R plus 63.
+#[tactic(auto, unfolding(crate::specs::Book::max_cmd_sn_of))]
 pub fn max_cmd_sn(w: Window) -> u32
     ensures { (k : Commands) (b : Book) → Agrees (state w k) b → result ≡ max_cmd_sn_of b }
 {
-    std::num::wrapping_add_u32(w.next, PLACES - 1)
+    w.next.wrapping_add(PLACES - 1)
+}
+
+// The origin of the command at the place d from R on, if one is held there.
+pub fn origin_at(w: Window, d: u32) -> Option<u32>
+    requires { d < slots }
+    ensures { (k : Commands) (b : Book) → Agrees (state w k) b → OriginAt (origin_of result) (slice_index_or b.held d empty) }
+{
+    let maps = w.origins;
+    (0..CONNECTIONS).find(|c| place_map::bit(maps[*c as usize], d) == 1)
 }
 
 // The slot of the place d from R on.
+#[tactic(auto, unfolding(crate::specs::PlaceSlot::slot_of))]
 pub fn slot_of(w: Window, d: u32) -> usize
     ensures { (result ≡ slot_of w d) × (result < slots) }
 {
-    let number = std::num::wrapping_add_u32(w.next, d);
+    let number = w.next.wrapping_add(d);
     (number as usize) % WINDOW_SLOTS
 }

@@ -10,7 +10,7 @@ ghost use Rattle.window.specs.Agree.{Did, Commands, state};
 use window::{CONNS, Window};
 
 // Logout reasons (RFC 7143, 11.14.1): the session is closed; the connection is removed for recovery. Any other reason
-// here closes the connection.
+// here closes the connection, so that a reason stays its number and no call can be refused for it.
 const CLOSE_SESSION: u8 = 0;
 
 const RECOVERY: u8 = 2;
@@ -36,17 +36,15 @@ pub fn logout(w: Window, conn: u32, reason: u8) -> LogoutStep
     let concerned = concerned_by(w, conn, reason);
     let emptied = concerned & !before;
     let voided = newly_voided(concerned & before, w.voided, reason);
-    let m = w.origins;
-    let origins = origins_left(m, conn, reason, emptied);
+    let origins = origins_left(w.origins, conn, reason, emptied);
     LogoutStep {
-        emptied: u64::count_ones(emptied),
-        voided: u64::count_ones(voided),
+        emptied: emptied.count_ones(),
+        voided: voided.count_ones(),
         window: Window {
-            next: w.next,
-            handed: w.handed,
             held: w.held & !emptied,
             voided: (w.voided | voided) & !emptied,
-            origins: origins,
+            origins,
+            ..w
         },
     }
 }
@@ -58,12 +56,12 @@ fn concerned_by(w: Window, conn: u32, reason: u8) -> u64
     if reason == CLOSE_SESSION {
         w.held
     } else {
-        let m = w.origins;
-        origin_maps::of(m, conn)
+        origin_maps::of(w.origins, conn)
     }
 }
 
 // Of the commands before ExpCmdSN that a logout concerns those that become void.
+#[tactic(auto, unfolding(place_map::specs::Bit::without))]
 fn newly_voided(before: u64, voided: u64, reason: u8) -> u64
     ensures { result ≡ pick (eqb reason recovery) 0 (without before voided) }
 {

@@ -1,5 +1,5 @@
 -- An offer of the code against the book's: one law for each outcome of the book's step, and agreement with a command more.
-use Rattle.std.proofs.Common.{◌≡◌, ℕ, ◌+◌, ◌-◌, ◌*◌, ◌%◌, ◌^◌, ◌<◌, ◌≤◌, min, false, List, [], length, get_or, set, sym, refl, ap, ◌∙◌, arith, length-set, get_or-set_other, get_or-set_same, le-ltb, lt-ltb, eq-eqb, ne_eqb, le-leb}
+use Rattle.std.proofs.Common.{◌≡◌, ℕ, ◌-◌, ◌*◌, ◌^◌, ◌<◌, ◌≤◌, min, false, List, [], length, get_or, set, sym, refl, ap, ◌∙◌, arith, length-set, get_or-set_other, get_or-set_same, le-ltb, lt-ltb, eq-eqb, ne_eqb, le-leb}
 use native.Mathlib.Decide.{ℕ_discrete, dec_lt}
 use borrow.Author.Tests.{lt-leb}
 use lib.ListN.{get_or-eq_default}
@@ -9,15 +9,30 @@ use Rattle.store.proofs.Slots.{slot_same, slot-other}
 use Rattle.place_map.specs.Bit.{bit_at, with_bit}
 use Rattle.window.specs.declared.Window.{Window}
 use Rattle.window.specs.PlaceSlot.{slot_of}
-use Rattle.window.specs.Book.{connection, Command, Place, empty, holds, Book, next, offer, kept, duplicate, passed, beyond, step, distance, keeping, offer_at, was_handed_out, offer_step, book_step, one-if, is_from}
-use Rattle.window.specs.Agree.{Commands, commands, state, held_bit, void_bit, origin_bit, Maps, SlotHas, Agrees, Enters, ahead}
+use Rattle.window.specs.Book.{connection, Command, Place, empty, holds, Book, next, Answer, offer, kept, duplicate, passed, beyond, step, keeping, offer_at, was_handed_out, offer_step, book_step, one-if, is_from}
+use Rattle.window.specs.Agree.{Commands, commands, state, held_bit, void_bit, origin_bit, Maps, SlotHas, Agrees, Enters, Stays, Did, ahead}
 use Rattle.window.proofs.PlaceSlot.{slot-fits, slot_apart, slot-stays}
 use Rattle.window.proofs.Bits.{maps-set, maps-keep}
+use Rattle.window.proofs.Steps.{met, difference, distance_is}
 
-pub offer-at : (b : Book) (n t c : ℕ) (h : List ℕ) (d : ℕ) → distance b n ≡ d
-    → book_step b (offer n t c h) ≡ offer_step b d (record { header = h; ticket = t; origin = connection c; void = false })
-unfolding book_step
-offer-at b n t c h d e = ap (λ (x : ℕ). offer_step b x (record { header = h; ticket = t; origin = connection c; void = false })) e
+module _ (w : Window) (n t c : ℕ) (h : List ℕ) where
+  abbrev pub offered : Command
+  offered = record { header = h; ticket = t; origin = connection c; void = false }
+
+  pub offer-at : (b : Book) → w.next ≡ next b → book_step b (offer n t c h) ≡ offer_step b (difference w n) offered
+  unfolding book_step
+  offer-at b e = ap (λ (x : ℕ). offer_step b x offered) (distance_is b w n e)
+
+  -- an offer that is not kept
+  pub unkept : (cs : Commands) (a : Answer) → Stays (offer n t c h) a (state w cs) (state w cs) [] []
+      → ((b : Book) → Agrees (state w cs) b → offer_step b (difference w n) offered ≡ step a [] b)
+      → Did (offer n t c h) (state w cs) a [] (state w cs)
+  unkept cs a s f = record {
+    meets = λ b g. met _ _ _ _ _ b b (offer-at b g.next ∙ f b g) g;
+    stays = s;
+    out_size = refl;
+    out_rest = refl;
+  }
 
 module _ (b : Book) (d : ℕ) (e : Command) where
   pub step-passed : b.share ≤ d → 2 ^ 32 - d ≤ min b.handed (2 ^ 31) → offer_step b d e ≡ step passed [] b
@@ -121,6 +136,6 @@ keep-agrees w w' cs b d tk cn hd g l em lh m n = record {
 
 -- ---- where a number lies
 
-pub ahead-is : (w : Window) (n d : ℕ) → (d + w.next) % 2 ^ 32 ≡ n → d < 2 ^ 32 → ahead w n ≡ d
+pub ahead-is : (w : Window) (n : ℕ) → w.next < 2 ^ 32 → ahead w n ≡ difference w n
 unfolding ahead
-ahead-is w n d e l = omega arith
+ahead-is w n l = omega arith

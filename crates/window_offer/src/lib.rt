@@ -32,7 +32,7 @@ pub fn offer(
         (offer_answer result.answer) []
         (state result.window (commands headers.new tickets.new)) }
 {
-    let d = std::num::wrapping_sub_u32(number, w.next);
+    let d = number.wrapping_sub(w.next);
     if PLACES <= d {
         // d is 2^32 less how far the number lies behind R.
         if u32::MAX - d < w.handed {
@@ -68,13 +68,9 @@ fn entered(w: Window, d: u32, conn: u32) -> Window
     ensures { Enters w d conn result }
 {
     let place = place_map::only(d);
-    let m = w.origins;
-    let origins = origin_maps::with_origin(m, conn, place);
     Window {
-        next: w.next,
-        handed: w.handed,
         held: w.held | place,
-        voided: w.voided,
-        origins: origins,
+        origins: origin_maps::with_origin(w.origins, conn, place),
+        ..w
     }
 }

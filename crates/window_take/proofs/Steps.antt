@@ -1,5 +1,5 @@
 -- A take of the code against the book's: one law for each outcome of the book's step, and agreement after a hand-out.
-use Rattle.std.proofs.Common.{◌≡◌, ℕ, suc, ◌+◌, ◌/◌, ◌%◌, ◌^◌, min, List, ◌++◌, length, get_or, drop, sym, refl, ap, ◌∙◌, arith, length-append, length-drop}
+use Rattle.std.proofs.Common.{◌≡◌, ℕ, suc, ◌+◌, ◌/◌, ◌%◌, ◌^◌, min, List, ◌++◌, length, get_or, drop, sym, ap, ◌∙◌, arith, length-append, length-drop}
 use Rattle.store.specs.Slot.{in_slot}
 use Rattle.place_map.proofs.Bits.{bit-zero}
 use Rattle.window.specs.declared.Window.{Window}
@@ -53,7 +53,7 @@ take-void w cs b o g v = go (first_place b) (sym (first-void w cs b g) ∙ v)
     go (holds x) e = rw (true-of-one x.void e, g.next)
 
 pub take-command : (w : Window) (cs : Commands) (b : Book) (a : Origin) (o : List ℕ) → Agrees (state w cs) b → (w.held % 2 ≡ 0 → ⊥)
-    → (w.voided % 2 ≡ 1 → ⊥) → OriginAt a (first_place b)
+    → (w.voided % 2 ≡ 1 → ⊥) → OriginAt a (get_or b.held 0 empty)
     → book_step b (take o) ≡ step (command w.next (get_or cs.tickets (slot_of w 0) 0) a) (in_slot cs.headers (slot_of w 0) ++ drop 48 o) (handed_on b)
 unfolding book_step first_place take_step SlotHas OriginAt held_bit void_bit
 take-command w cs b a o g n v u =

@@ -1,12 +1,12 @@
 // A take from the command window: the next command, a void number, or nothing.
 #![tactic(auto)]
 
-ghost use Rattle.std.specs.Prelude.{◌≡◌, ◌+◌, ◌≤◌, min, length};
+ghost use Rattle.std.specs.Prelude.{◌≡◌, ◌+◌, ◌/◌, ◌≤◌, min, map, length};
 ghost use Rattle.store.specs.Slot.{header_size};
-ghost use Rattle.window.specs.Book.{Book, remembered, Call, handed_on, first_place};
-ghost use Rattle.window.specs.Agree.{Agrees, Did, OriginAt, Commands, commands, state, take_answer, origin_of};
+ghost use Rattle.window.specs.Book.{Book, remembered, Call, handed_on};
+ghost use Rattle.window.specs.Agree.{Agrees, Did, Commands, commands, state, take_answer};
 
-use window::{Origin, Taken, WINDOW_BYTES, WINDOW_SLOTS, Window, slot_of};
+use window::{CONNS, Taken, WINDOW_BYTES, WINDOW_SLOTS, Window, origin_at, slot_of};
 
 // How many hand-outs are remembered: 2^31.
 const REMEMBERED: u32 = 2147483648;
@@ -45,14 +45,14 @@ pub fn take(
         };
     }
     let slot = slot_of(w, 0);
-    let origin = first_origin(w);
+    let origin = origin_at(w, 0);
     let ticket = tickets[slot];
     store::get(headers, slot * store::HEADER_BYTES, out);
     TakeStep {
         answer: Taken::Command {
             number: next,
-            ticket: ticket,
-            origin: origin,
+            ticket,
+            origin,
         },
         window: after,
     }
@@ -62,45 +62,25 @@ pub fn take(
 fn handed_on(w: Window) -> Window
     ensures { (k : Commands) (b : Book) → Agrees (state w k) b → Agrees (state result k) (handed_on b) }
 {
-    let next = std::num::wrapping_add_u32(w.next, 1);
-    let handed = one_more(w.handed);
-    let m = w.origins;
     Window {
-        next: next,
-        handed: handed,
+        next: w.next.wrapping_add(1),
+        handed: one_more(w.handed),
         held: w.held >> 1,
         voided: w.voided >> 1,
-        origins: [m[0] >> 1, m[1] >> 1, m[2] >> 1, m[3] >> 1],
+        origins: halves(w.origins),
     }
+}
+
+// Each map without its first place.
+fn halves(maps: [u64; CONNS]) -> [u64; CONNS]
+    ensures { result ≡ map (λ m. m / 2) maps }
+{
+    maps.map(|m| m >> 1)
 }
 
 // One hand-out more, as far as they are remembered.
 fn one_more(handed: u32) -> u32
     ensures { result ≡ min (handed + 1) remembered }
 {
-    if handed < REMEMBERED {
-        handed + 1
-    } else {
-        REMEMBERED
-    }
-}
-
-// The origin of the command at the first place.
-fn first_origin(w: Window) -> Origin
-    ensures { (k : Commands) (b : Book) → Agrees (state w k) b → OriginAt (origin_of result) (first_place b) }
-{
-    let m = w.origins;
-    if m[0] % 2 == 1 {
-        return Origin::Connection(0);
-    }
-    if m[1] % 2 == 1 {
-        return Origin::Connection(1);
-    }
-    if m[2] % 2 == 1 {
-        return Origin::Connection(2);
-    }
-    if m[3] % 2 == 1 {
-        return Origin::Connection(3);
-    }
-    Origin::None
+    handed.min(REMEMBERED - 1) + 1
 }

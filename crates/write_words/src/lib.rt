@@ -10,15 +10,14 @@ use field::HEADER_BYTES;
 use refusal::Refusal;
 use response_from_words::response;
 use response_header::{MAX_DATA, Numbers, Response};
-use response_words::{FromWords, unfit_refusal};
-use response_writer::WriteAnswer;
+use response_words::unfit_refusal;
 
 fn write_known(out: &mut [u8], r: Response, n: Numbers) -> u32
     ensures { ◌≡◌ {A = Outcome} (record { answer = result; bytes = out.new }) (Rattle.response_writer.specs.Writing.writing 8192 out.old r n) }
 {
     match response_writer::write(out, r, n, MAX_DATA) {
-        WriteAnswer::Refused(f) => refusal::number_of(f) as u32,
-        WriteAnswer::Written => 0,
+        Ok(()) => 0,
+        Err(f) => refusal::number_of(f) as u32,
     }
 }
 
@@ -34,20 +33,20 @@ pub fn write(
     ensures { ◌≡◌ {A = Outcome} (record { answer = result; bytes = out.new }) (write_words (response_of words.now) out.old (numbers_of stat_sn exp_cmd_sn max_cmd_sn)) }
 {
     match response(words) {
-        FromWords::Unfit(stated) => {
-            if out.len() < HEADER_BYTES {
-                return refusal::number_of(Refusal::Buffer) as u32;
-            }
-            refusal::number_of(unfit_refusal(stated, MAX_DATA)) as u32
-        }
-        FromWords::Response(r) => write_known(
+        Ok(r) => write_known(
             out,
             r,
             Numbers {
-                stat_sn: stat_sn,
-                exp_cmd_sn: exp_cmd_sn,
-                max_cmd_sn: max_cmd_sn,
+                stat_sn,
+                exp_cmd_sn,
+                max_cmd_sn,
             },
         ),
+        Err(u) => {
+            if out.len() < HEADER_BYTES {
+                return refusal::number_of(Refusal::Buffer) as u32;
+            }
+            refusal::number_of(unfit_refusal(u.stated, MAX_DATA)) as u32
+        }
     }
 }

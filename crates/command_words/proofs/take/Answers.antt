@@ -1,25 +1,19 @@
-use Rattle.session_commands.specs.Answer.{take_answer}
+use Rattle.window.specs.Agree as WA
+use Rattle.book.specs.Book.{from_window}
 use Rattle.call_words.specs.Session.{by_take}
 use Rattle.call_words.proofs.Unchanged.{refused-said, taken-moves}
 use Rattle.command_words.proofs.take.Goals as goal
 
-pub returns-in-Refused : goal.returns-in-Refused
-returns-in-Refused c ss =
-    let load = c.load-s.ensures in
-    let call = c.take-step in
-    let e = c.in-Refused.is in
-    refused-said (rw (load, e) at (call.ensures ss)) c.refused.ensures
-
-pub returns-in-Taken : goal.returns-in-Taken
-returns-in-Taken c ss =
-    let load = c.load-s.ensures in
-    let call = c.take-step in
-    let e = c.in-Taken.is in
+pub returns-in-Ok : goal.returns-in-Ok
+returns-in-Ok c ss =
     let kept = c.store_window.ensures in
     record {
-      answer = take_answer call.result.answer;
-      did = rw (kept.2, ← load, e) (rw e at (call.ensures ss));
-      words = rw e c.handed_out.ensures;
-      writes = rw (kept.0, kept.1) (by_take call.result.window);
-      stays = rw e (taken-moves c.in-Taken.x _ _ _ _);
+      answer = from_window (WA.take_answer c.in-Ok.taken.answer);
+      did = rw (kept.2, ← c.load-s.ensures) (c.in-Ok.ensures ss);
+      words = c.handed_out.ensures;
+      writes = rw (kept.0, kept.1) (by_take c.in-Ok.taken.window);
+      stays = taken-moves c.in-Ok.taken.answer _ _ _ _;
     }
+
+pub returns-in-Err : goal.returns-in-Err
+returns-in-Err c ss = refused-said (rw c.load-s.ensures at (c.in-Err.ensures ss)) c.refused.ensures

@@ -3,24 +3,24 @@ use Rattle.call_words.specs.Session.{by_logout}
 use Rattle.call_words.proofs.Unchanged.{refused-said}
 use Rattle.connection_words.proofs.logout.Goals as goal
 
-pub returns-in-Refused : goal.returns-in-Refused
-returns-in-Refused c k ss =
-    let load = c.load-s.ensures in
-    let call = c.logout-step in
-    let e = c.in-Refused.is in
+pub returns-in-Err : goal.returns-in-Err
+returns-in-Err c k ss =
+    let load = c.load.ensures in
+    let call = c.logout in
+    let e = c.in-Err.is in
     refused-said (rw (load, e) at (call.ensures k ss)) c.refused.ensures
 
-pub returns-in-LoggedOut : goal.returns-in-LoggedOut
-returns-in-LoggedOut c k ss =
-    let load = c.load-s.ensures in
-    let call = c.logout-step in
-    let e = c.in-LoggedOut.is in
+pub returns-in-Ok : goal.returns-in-Ok
+returns-in-Ok c k ss =
+    let load = c.load.ensures in
+    let call = c.logout in
+    let e = c.in-Ok.is in
     let shut = c.close.ensures in
     let kept = c.store_window.ensures in
     record {
-      answer = logout_answer call.result.answer;
+      answer = logout_answer call.result;
       did = rw (shut.1, kept.2, ← load, e) (rw e at (call.ensures k ss));
       words = rw e c.logged_out.ensures;
-      writes = rw (shut.0, kept.0, kept.1) (by_logout call.result.window _);
+      writes = rw (shut.0, kept.0, kept.1) (by_logout c.in-Ok.l.window _);
       stays = rw e tt;
     }

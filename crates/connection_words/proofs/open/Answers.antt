@@ -3,18 +3,18 @@ use Rattle.call_words.specs.Session.{by_opening}
 use Rattle.call_words.proofs.Unchanged.{refused-said}
 use Rattle.connection_words.proofs.open.Goals as goal
 
-pub returns-in-Refused : goal.returns-in-Refused
-returns-in-Refused c k ss =
-    let load = c.load-s.ensures in
+pub returns-in-Err : goal.returns-in-Err
+returns-in-Err c k ss =
+    let load = c.load.ensures in
     let call = c.open_connection in
-    let e = c.in-Refused.is in
+    let e = c.in-Err.is in
     refused-said (rw (load, e) at (call.ensures k ss)) c.pack_refused.ensures
 
-pub returns-in-Opened : goal.returns-in-Opened
-returns-in-Opened c k ss =
-    let load = c.load-s.ensures in
+pub returns-in-Ok : goal.returns-in-Ok
+returns-in-Ok c k ss =
+    let load = c.load.ensures in
     let call = c.open_connection in
-    let e = c.in-Opened.is in
+    let e = c.in-Ok.is in
     let kept = c.store_conn.ensures in
     record {
       answer = open_answer call.result;

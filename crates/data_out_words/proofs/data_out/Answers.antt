@@ -11,9 +11,6 @@ returns-then-f-ne0 c k ss =
     let f = data-out-refused x a.pdu.now _ c.if-f-ne0.true in
     refused-moves (rw (c.load-s.ensures, f) at (c.data_out_refusal-f.ensures.did x k ss)) c.refused_by.ensures
 
-pub data_out_in-requires : goal.data_out_in-requires
-data_out_in-requires c = c.data_out_refusal-f.ensures.long c.if-f-ne0.false
-
 pub returns-in-Refused : goal.returns-in-Refused
 returns-in-Refused c k ss =
     let a = c.args in

@@ -1,10 +1,12 @@
 use mathlib.Core.Path.{◌≡◌, refl}
-use Prim.Native.Nat.{ℕ, ◌+◌, ◌≤◌, ◌-◌, ◌^◌}
+use mathlib.Core.List.{List}
+use Prim.Native.Nat.{ℕ, ◌+◌, ◌≤◌, ◌<◌, ◌-◌, ◌^◌}
 use native.Mathlib.Omega.{arith}
 use native.Mathlib.Nat.{pow-le-pow_right, pow-suc}
 use native.Mathlib.Numerals.{add-one}
 use lib.Dec.{lit≤}
-use borrow.Author.Rules.{rules}
+use lib.ListN.{length, get_or, take, drop}
+use Rattle.std.proofs.lemmas.List.Edits.{length-between, get_or-between}
 use Rattle.field.specs.Field.{be_at}
 use Rattle.field.proofs.Laws.{be-suc}
 use Rattle.field.proofs.be.Goals as goal
@@ -12,39 +14,33 @@ use Rattle.field.proofs.be.Goals as goal
 small : (i : ℕ) → i ≤ 7 → 256 ^ i ≤ 256 ^ 7
 small i h = pow-le-pow_right {n = 256} (lit≤ tt) h
 
-pub loop-i-init : goal.loop-i-init
+-- how many bytes are looked at, and byte i of them
+count : (s : List ℕ) (at n : ℕ) → at + n ≤ length s → length (take (at + n - at) (drop at s)) ≡ n
+count s at n h = omega (arith, length-between s at (at + n) h)
+
+here : (s : List ℕ) (at n i : ℕ) → i < n → get_or (take (at + n - at) (drop at s)) i 0 ≡ get_or s (at + i) 0
+here s at n i h = get_or-between s at (at + n) i 0 (omega arith)
+
+pub loop-b-init : goal.loop-b-init
 unfolding be_at
-loop-i-init c = (omega arith, refl, omega arith)
+loop-b-init c = (refl, omega arith)
 
 pub overflow_mul-v : goal.overflow_mul-v
-overflow_mul-v c = omega (arith, small c.loop-i.i (omega arith))
-
-pub overflow_add-at : goal.overflow_add-at
-overflow_add-at c = omega arith
-
-pub bounds-s-at : goal.bounds-s-at
-bounds-s-at c = omega arith
-
-pub wide-requires : goal.wide-requires
-wide-requires c = search rules
+overflow_mul-v c =
+    let a = c.args in
+    omega (arith, count a.s.now a.at a.n c.requires.1, small c.loop-b.b-index (omega (arith, count a.s.now a.at a.n c.requires.1)))
 
 pub overflow_add-v : goal.overflow_add-v
 overflow_add-v c =
-    omega (arith, small c.loop-i.i (omega arith), c.shared_slice_known-in-loop-i-1.given (c.args.at + c.loop-i.i))
+    let a = c.args in
+    let i = c.loop-b.b-index in
+    let h : i < a.n = omega (arith, count a.s.now a.at a.n c.requires.1) in
+    omega (arith, small i (omega arith), here a.s.now a.at a.n i h, c.type_inv.s (a.at + i))
 
-pub overflow_add-i : goal.overflow_add-i
-overflow_add-i c = omega arith
-
-pub loop-i-smaller : goal.loop-i-smaller
-loop-i-smaller c = omega arith
-
-pub loop-i-preserved : goal.loop-i-preserved
-loop-i-preserved c =
-    let g = c.args in
-    let b = c.shared_slice_known-in-loop-i-1.given (g.at + c.loop-i.i) in
-    (omega arith, rw (be-suc, c.wide.ensures, ← c.loop-i.invariant.1), rw (add-one, pow-suc) (omega (arith, b)))
-
-pub returns : goal.returns
-returns c =
-    let e : c.loop-i.i ≡ c.args.n = omega arith in
-    (rw (← e) c.loop-i.invariant.1, rw (← e) c.loop-i.invariant.2)
+pub loop-b-preserved : goal.loop-b-preserved
+loop-b-preserved c =
+    let a = c.args in
+    let i = c.loop-b.b-index in
+    let h : i < a.n = omega (arith, count a.s.now a.at a.n c.requires.1) in
+    let b = c.type_inv.s (a.at + i) in
+    rw (here a.s.now a.at a.n i h) (rw (be-suc, ← c.loop-b.invariant.0), rw (add-one, pow-suc) (omega (arith, b)))

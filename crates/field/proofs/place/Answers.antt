@@ -1,21 +1,12 @@
--- `field::place`: what was passed is pasted; the measure is what is left of the 8 bytes.
-use Prim.Native.Nat.{◌-◌}
-use borrow.Author.Rules.{rules}
 use native.Mathlib.Omega.{arith}
-use Rattle.field.proofs.Laws.{paste_none, paste-next, paste-last}
+use mathlib.Core.Path.{◌∙◌}
+use borrow.Author.Rules.{rules}
+use Rattle.std.proofs.lemmas.Slice.{put_mid-paste}
+use Rattle.field.proofs.Laws.{paste-sets}
 use Rattle.field.proofs.place.Goals as goal
 
-pub loop-i-init : goal.loop-i-init
-loop-i-init c = paste_none 8 c.args.h.now c.args.at c.args.bytes
-
-pub loop-i-preserved : goal.loop-i-preserved
-loop-i-preserved c =
-    let a = c.args in
-    let l = c.loop-i in
-    paste-next 8 a.h.now a.at a.bytes c.requires (search rules) l.h l.i (omega arith) l.invariant
-
 pub returns : goal.returns
-returns c =
+returns g c =
     let a = c.args in
-    let l = c.loop-i in
-    paste-last 8 a.h.now a.at a.bytes l.h l.i (omega arith) l.invariant
+    put_mid-paste a.at _ a.h.now _ a.bytes g.row.N c.copy_from_slice.ensures.after (omega arith) (search rules)
+    ∙ paste-sets a.h.now a.at a.bytes g.row.N (search rules) c.requires

@@ -17,7 +17,7 @@ returns c =
     let low : a.l.held < 32 = omega arith in
     rw c.place.ensures (record {
       agrees = λ b g. stored-agrees a.c a.l _ a.ticket h (statuses_in a.headers.now a.tickets.now) b g low size
-          c.wrapping_add_u32-after.ensures.value refl;
+          refl refl;
       others = λ k m b ne g. stored-others a.c k a.l.next a.ticket h (statuses_in a.headers.now a.tickets.now) m b near ne size g;
       headers_size = λ e. length-paste a.headers.now ((a.c * 32 + a.l.next % 32) * 48) h 48 (omega arith) (omega (arith, size)) ∙ e;
       tickets_size = λ e. length-set a.tickets.now (a.c * 32 + a.l.next % 32) a.ticket ∙ e;

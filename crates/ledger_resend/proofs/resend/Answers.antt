@@ -1,5 +1,5 @@
 -- `ledger_resend::resend` meets its contract: what is held lies in the slot of its number.
-use Prim.Native.Nat.{ℕ, ◌+◌, ◌*◌, ◌%◌, ◌-◌, ◌≤◌}
+use Prim.Native.Nat.{ℕ, ◌+◌, ◌*◌, ◌%◌, ◌≤◌}
 use mathlib.Core.Path.{◌≡◌, refl, ◌∙◌}
 use mathlib.Core.List.{List, ◌++◌}
 use native.Mathlib.Omega.{arith}
@@ -9,7 +9,6 @@ use Rattle.store.specs.Slot.{in_slot}
 use Rattle.ledger.specs.Book.{renewed_for, renewed}
 use Rattle.ledger.specs.Agree.{statuses_in}
 use Rattle.ledger.proofs.Laws.{renew-both, renewed-front, renew, length-renewed, headed-size, headed-rest, resend-missing, resend-found}
-use borrow.Author.Rules.{rules}
 use Rattle.ledger_resend.proofs.resend.Goals as goal
 
 size : (h : List ℕ) (j : ℕ) → j * 48 + 48 ≤ length h → length (in_slot h j) ≡ 48
@@ -26,9 +25,6 @@ returns-then-l-place c =
       out_size = refl;
       out_rest = refl;
     }
-
-pub renew_for-requires : goal.renew_for-requires
-renew_for-requires c = search rules
 
 pub returns : goal.returns
 returns c =

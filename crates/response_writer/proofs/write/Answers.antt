@@ -1,8 +1,5 @@
-use mathlib.Core.Path.{sym, ap, ◌∙◌}
-use mathlib.Core.List.{List, ◌++◌}
-use Prim.Native.Nat.{ℕ}
 use borrow.Author.Tests.{lt-ltb, le-ltb}
-use lib.ListN.{drop}
+use Rattle.std.proofs.lemmas.Result.{err_from_is_err_and}
 use Rattle.refusal.proofs.Laws.{number-positive}
 use Rattle.response_writer.specs.Writing.{writing}
 use Rattle.response_layout.specs.WholeNumbers.{own_bytes}
@@ -13,24 +10,21 @@ pub returns-then-out-lt-HEADER_BYTES : goal.returns-then-out-lt-HEADER_BYTES
 unfolding writing
 returns-then-out-lt-HEADER_BYTES c = rw (lt-ltb _ _ c.if-out-lt-HEADER_BYTES.true)
 
-pub returns-in-Refused : goal.returns-in-Refused
+pub returns-in_err-judge : goal.returns-in_err-judge
 unfolding writing
-returns-in-Refused c =
-    rw (
-      le-ltb _ _ c.if-out-lt-HEADER_BYTES.false,
-      ← c.judge.ensures,
-      c.in-Refused.is,
-      number-positive,
-    )
+returns-in_err-judge c =
+    let p = err_from_is_err_and c.from_residual.result c.from_residual.ensures.1 in
+    rw (p.1, p.2, le-ltb _ _ c.if-out-lt-HEADER_BYTES.false, ← c.in_err-judge.ensures, number-positive)
 
-pub returns-in-Fits : goal.returns-in-Fits
+pub returns : goal.returns
 unfolding writing
-returns-in-Fits c =
+returns c =
     let o = c.own_fields-o in
     let a = c.args in
-    let rest = drop 48 a.out.now in
-    rw (le-ltb _ _ c.if-out-lt-HEADER_BYTES.false, ← c.judge.ensures, c.in-Fits.is)
-    (ap (λ (b : List ℕ). record { answer = 0; bytes = b })
-    (c.place.ensures
-    ∙ front a.out.now (own_bytes o.result a.n) (length-own o.result a.n)
-    ∙ ap (λ (h : List ℕ). h ++ rest) (sym (o.ensures a.n))))
+    rw (
+      le-ltb _ _ c.if-out-lt-HEADER_BYTES.false,
+      ← c.in_ok-judge.ensures,
+      c.place.ensures,
+      front a.out.now (own_bytes o.result a.n) (length-own o.result a.n),
+      ← o.ensures a.n,
+    )

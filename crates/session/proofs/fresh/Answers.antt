@@ -26,11 +26,11 @@ each x n k ss a e (suc (suc (suc (suc c)))) h = absurd (omega arith)
 pub returns : goal.returns
 unfolding fresh_book opened_by share conn_at ConnAgrees
 returns c =
-    let w = c.fresh-w in
+    let w = c.fresh in
     let o = c.opened in
     record {
       agrees = record {
-        level = refl;
+        level = search rules;
         window = w.ensures.agrees;
         conns_size = refl;
         book_size = refl;

@@ -12,7 +12,9 @@ pub returns-then-conn-lt-CONNECTIONS : goal.returns-then-conn-lt-CONNECTIONS
 unfolding ledger_numbers
 returns-then-conn-lt-CONNECTIONS c =
     let a = c.args in
-    (rw (lt-ltb _ _ c.if-conn-lt-CONNECTIONS.true), λ m. ledger-kept a.conn a.n.now m a.l c.requires c.if-conn-lt-CONNECTIONS.true)
+    let near = c.if-conn-lt-CONNECTIONS.true in
+    let at = c.conn_place-at.ensures in
+    (rw (lt-ltb _ _ near, at), λ m. rw at (ledger-kept a.conn a.n.now m a.l c.requires near))
 
 pub returns-else-conn-lt-CONNECTIONS : goal.returns-else-conn-lt-CONNECTIONS
 unfolding ledger_numbers

@@ -8,4 +8,5 @@ pub returns : goal.returns
 returns c =
     let a = c.args in
     let o : length a.w.origins ≡ 4 = search rules in
-    (refl, refl, window-kept a.n.now a.m.now a.w c.requires o)
+    let w = c.maps_of.ensures in
+    (refl, w, rw w (window-kept a.n.now a.m.now a.w c.requires o))

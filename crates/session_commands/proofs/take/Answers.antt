@@ -14,4 +14,4 @@ returns-then-out-lt-HEADER_BYTES c ss =
 pub returns : goal.returns
 returns c ss =
     let a = c.args in
-    by-window _ _ a.s ss _ _ _ _ refl (λ k. tt) c.take-step.ensures (λ b g. take-eq b (outputs a.out.now) _ ∙ lend-long b (outputs a.out.now) _ c.if-out-lt-HEADER_BYTES.false)
+    by-window _ _ a.s ss _ _ _ _ refl (λ k. tt) c.take.ensures (λ b g. take-eq b (outputs a.out.now) _ ∙ lend-long b (outputs a.out.now) _ c.if-out-lt-HEADER_BYTES.false)

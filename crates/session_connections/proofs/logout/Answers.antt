@@ -1,41 +1,34 @@
 -- `session_connections::logout` meets its contract: the window's step, and the connections that are left.
-use Prim.Native.Nat.{◌≤◌}
 use mathlib.Core.Path.{refl, sym, ap, ◌∙◌}
+use Rattle.std.proofs.lemmas.Result.{err_from_is_err_and}
 use Rattle.window.specs.Book as W
 use Rattle.book.specs.Book.{no_outputs, from_window, step, conns_left, logged_out}
-use Rattle.session_state.proofs.Steps.{met, as_lent, refusing, reach-none, reach-closed, open_at, reach-open}
+use Rattle.session_state.proofs.Steps.{met, as_lent, refusing, reach-refused, open_at, reach-open}
 use Rattle.session_connections.proofs.Outcomes.{logout-eq, closing-leaves, left-agrees, logout-field, logout-done}
 use Rattle.session_connections.proofs.logout.Goals as goal
+
+pub returns-in_err-reach : goal.returns-in_err-reach
+returns-in_err-reach c k ss =
+    let a = c.args in
+    let p = err_from_is_err_and c.from_residual.result c.from_residual.ensures.1 in
+    rw (p.1, p.2)
+    (refusing _ _ _ no_outputs refl (λ b g. logout-eq b a.conn a.reason _ ∙ reach-refused _ b a.conn no_outputs _ _ g c.in_err-reach.ensures))
 
 pub returns-then-reason-gt2 : goal.returns-then-reason-gt2
 returns-then-reason-gt2 c k ss =
     let a = c.args in
-    let i = rw c.in-Open.is at c.reach.ensures in
     refusing _ _ 3 no_outputs refl (λ b g.
-    let v = open_at _ b a.conn _ g i in
+    let v = open_at _ b a.conn _ g c.in_ok-reach.ensures in
     logout-eq b a.conn a.reason _ ∙ reach-open b a.conn no_outputs _ v.book v.near v.is ∙ logout-field b a.conn a.reason c.if-reason-gt2.true)
 
-pub returns-in-NoConn : goal.returns-in-NoConn
-returns-in-NoConn c k ss =
-    let a = c.args in
-    let far : 4 ≤ a.conn = rw c.in-NoConn.is at c.reach.ensures in
-    refusing _ _ 7 no_outputs refl (λ b g. logout-eq b a.conn a.reason _ ∙ reach-none b a.conn no_outputs _ far)
-
-pub returns-in-Closed : goal.returns-in-Closed
-returns-in-Closed c k ss =
-    let a = c.args in
-    let n = rw c.in-Closed.is at c.reach.ensures in
-    refusing _ _ 8 no_outputs refl (λ b g. logout-eq b a.conn a.reason _ ∙ reach-closed _ b a.conn no_outputs _ g n.0 n.1)
-
-pub returns-else-reason-gt2 : goal.returns-else-reason-gt2
+pub returns : goal.returns
 unfolding logged_out
-returns-else-reason-gt2 c k ss =
+returns c k ss =
     let a = c.args in
-    let i = rw c.in-Open.is at c.reach.ensures in
     let w = c.logout-step.ensures k in
     record {
       meets = λ b g.
-          let v = open_at _ b a.conn _ g i in
+          let v = open_at _ b a.conn _ g c.in_ok-reach.ensures in
           let m = w.meets b.window g.window in
           met _ _ _ _ _ b _
           (logout-eq b a.conn a.reason _ ∙ reach-open b a.conn no_outputs _ v.book v.near v.is ∙ logout-done b a.conn a.reason c.if-reason-gt2.false

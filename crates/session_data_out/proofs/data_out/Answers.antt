@@ -9,9 +9,6 @@ returns-then-f-ne0 c k ss =
     let x = record_of a.t a.tags.now a.ends.now in
     rw (data-out-refused x a.pdu.now _ c.if-f-ne0.true) at (c.data_out_refusal-f.ensures.did x k ss)
 
-pub data_out_in-requires : goal.data_out_in-requires
-data_out_in-requires c = c.data_out_refusal-f.ensures.long c.if-f-ne0.false
-
 pub returns : goal.returns
 returns c k ss =
     let a = c.args in

@@ -1,5 +1,5 @@
-use mathlib.Core.Path.{◌≡◌, refl, sym, ◌∙◌}
-use lib.ListN.{length, length-map}
+use mathlib.Core.Path.{◌≡◌}
+use lib.ListN.{length}
 use Rattle.session_state.specs.After.{conn_at}
 use Rattle.session_words.specs.State.{session_numbers}
 use Rattle.session_kept.proofs.Kept.{kept}
@@ -16,4 +16,5 @@ returns c =
     let w1 = c.open_word-2.ensures in
     let w2 = c.open_word-3.ensures in
     let w3 = c.open_word-4.ensures in
-    (rw (w0, w1, w2, w3), refl, rw (w0, w1, w2, w3) (kept s o k))
+    let w = c.maps_of.ensures in
+    (rw (w0, w1, w2, w3), w, rw (w, w0, w1, w2, w3) (kept s o k))

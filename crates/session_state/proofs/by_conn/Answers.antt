@@ -6,4 +6,4 @@ pub returns-then-k : goal.returns-then-k
 returns-then-k c = (refl, c.if-k.true)
 
 pub returns-else-k : goal.returns-else-k
-returns-else-k c = c.if-k.false
+returns-else-k c = (refl, c.if-k.false)

@@ -1,17 +1,17 @@
 -- `session_state::reach` meets its contract: the number, then whether it is open.
 use Prim.Native.Nat.{ℕ, ◌<◌}
 use native.Mathlib.Omega.{arith}
+use Rattle.std.specs.Prelude.{Result, Ok, Err}
+use Rattle.refusal.specs.declared.Refusal.{Refusal}
+use Rattle.ledger.specs.declared.Ledger.{Ledger}
 use Rattle.session_state.specs.declared.Session.{Session}
-use Rattle.session_state.specs.declared.Reached.{Reached}
-use Rattle.session_state.specs.declared.Reached.TheVariants as R
 use Rattle.session_state.specs.After.{conn_at}
 use Rattle.session_state.specs.Reach.{ReachesAt, Reaches}
 use Rattle.session_state.proofs.reach.Goals as goal
 
-by-conn : (s : Session) (c : ℕ) (r : Reached) → c < 4 → ReachesAt (conn_at s c) r → Reaches s c r
-by-conn s c R.NoConn l h = absurd h
-by-conn s c R.Closed l h = (l, h)
-by-conn s c (R.Open k) l h = record { near = l; ledger = h.0; is_open = h.1 }
+by-conn : (s : Session) (c : ℕ) (r : Result Ledger Refusal) → c < 4 → ReachesAt (conn_at s c) r → Reaches s c r
+by-conn s c (Err f) l h = rw h.0 (l, h.1)
+by-conn s c (Ok k) l h = record { near = l; ledger = h.0; is_open = h.1 }
 
 pub returns-in-0 : goal.returns-in-0
 unfolding conn_at

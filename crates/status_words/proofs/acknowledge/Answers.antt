@@ -3,18 +3,18 @@ use Rattle.call_words.specs.Session.{by_acknowledge}
 use Rattle.call_words.proofs.Unchanged.{refused-said}
 use Rattle.status_words.proofs.acknowledge.Goals as goal
 
-pub returns-in-Refused : goal.returns-in-Refused
-returns-in-Refused c k ss =
+pub returns-in-Err : goal.returns-in-Err
+returns-in-Err c k ss =
     let load = c.load-s.ensures in
     let call = c.acknowledge in
-    let e = c.in-Refused.is in
+    let e = c.in-Err.is in
     refused-said (rw (load, e) at (call.ensures k ss)) c.pack_refused.ensures
 
-pub returns-in-Acknowledged : goal.returns-in-Acknowledged
-returns-in-Acknowledged c k ss =
+pub returns-in-Ok : goal.returns-in-Ok
+returns-in-Ok c k ss =
     let load = c.load-s.ensures in
     let call = c.acknowledge in
-    let e = c.in-Acknowledged.is in
+    let e = c.in-Ok.is in
     let kept = c.store_ledger.ensures in
     record {
       answer = acknowledge_answer call.result;

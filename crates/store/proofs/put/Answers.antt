@@ -1,27 +1,17 @@
--- `store::put`: the 48 bytes are pasted as `place` pastes them.
-use Prim.Native.Nat.{ℕ, ◌+◌, ◌≤◌}
-use mathlib.Core.Path.{ap, ◌∙◌}
+-- `store::put`: the 48 bytes that it copies are pasted.
+use Prim.Native.Nat.{ℕ, ◌+◌}
+use mathlib.Core.Path.{◌≡◌, sym, ap, ◌∙◌}
 use mathlib.Core.List.{List, ◌++◌}
 use native.Mathlib.Omega.{arith}
-use lib.ListN.{length, take, drop, length-take}
-use lib.Seq.{paste, take_all}
-use borrow.Author.Rules.{rules}
+use lib.ListN.{length, take, drop}
+use lib.Seq.{take_all, length-take-le}
+use Rattle.std.proofs.lemmas.Slice.{put_mid-paste}
 use Rattle.store.proofs.put.Goals as goal
 
--- src/rt:44:9
-pub first_bytes-bytes-requires : goal.first_bytes-bytes-requires
-first_bytes-bytes-requires c = search rules
-
--- src/rt:45:5
-pub place-requires : goal.place-requires
-place-requires c = search rules
-
--- src/rt:40:1
 pub returns : goal.returns
 returns c =
     let a = c.args in
-    let b = c.first_bytes-bytes in
-    let k : length (take 48 a.header.now) ≤ 48 = simp length-take (omega arith) in
-    c.place.ensures
-    ∙ ap (λ (r : List ℕ). paste a.headers.now a.at r 48) b.ensures
-    ∙ ap (λ (r : List ℕ). take a.at a.headers.now ++ r ++ drop (a.at + 48) a.headers.now) (take_all 48 (take 48 a.header.now) k)
+    let h = take 48 a.header.now in
+    let e : length h ≡ 48 = length-take-le 48 a.header.now c.requires.1 in
+    put_mid-paste a.at _ a.headers.now _ h 48 (c.copy_from_slice-2.ensures.after ∙ c.copy_from_slice.ensures.after) (omega arith) (sym e)
+    ∙ ap (λ (b : List ℕ). take a.at a.headers.now ++ b ++ drop (a.at + 48) a.headers.now) (take_all 48 h (omega arith))

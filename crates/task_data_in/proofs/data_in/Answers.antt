@@ -1,9 +1,7 @@
 -- `task_data_in::data_in` meets its contract.
 use mathlib.Core.Path.{sym, ◌∙◌}
 use mathlib.Core.List.{[]}
-use mathlib.Core.Bool.{or-true}
 use native.Mathlib.Omega.{arith}
-use Rattle.task_book.specs.Steps.{data_in_step, after_data_in, numbered}
 use Rattle.task.proofs.Laws.{data-in-good}
 use Rattle.task_data_in.proofs.data_in.Goals as goal
 
@@ -19,20 +17,3 @@ pub overflow_add-result : goal.overflow_add-result
 overflow_add-result c =
     let good = data-in-good _ _ _ (sym (c.data_in_ok.ensures [] []) ∙ c.if-data_in_ok.true) in
     omega arith
-
-pub returns-then-data_in_ok : goal.returns-then-data_in_ok
-unfolding data_in_step after_data_in numbered
-returns-then-data_in_ok c ts es =
-    let s = c.after_data_in-sequence.ensures in
-    rw (
-      ← (c.data_in_ok.ensures ts es),
-      c.if-data_in_ok.true,
-      ← (c.data_in_header-header.ensures ts es),
-      or-true,
-      ← s.0,
-      ← s.1,
-    )
-
-pub returns-else-data_in_ok : goal.returns-else-data_in_ok
-unfolding data_in_step
-returns-else-data_in_ok c ts es = rw (← (c.data_in_ok.ensures ts es), c.if-data_in_ok.false)

@@ -1,8 +1,7 @@
 -- `task_r2t::r2t` meets its contract.
-use mathlib.Core.Path.{refl, sym, ◌∙◌}
+use mathlib.Core.Path.{sym, ◌∙◌}
 use mathlib.Core.List.{[]}
 use borrow.Author.Rules.{rules}
-use Rattle.task_book.specs.Steps.{r2t_step}
 use Rattle.task_r2t.specs.R2T.{R2TSent}
 use Rattle.task_r2t.proofs.Laws.{r2t-fits}
 use Rattle.task_r2t.proofs.r2t.Goals as goal
@@ -21,9 +20,3 @@ returns-then-r2t_ok c =
     let a = c.args in
     c.r2t_sent-sent.ensures a.tags.now a.ends.now _ _ (sym (ok.ensures a.tags.now a.ends.now) ∙ c.if-r2t_ok.true)
     c.push.ensures
-
-pub returns-else-r2t_ok : goal.returns-else-r2t_ok
-unfolding r2t_step
-returns-else-r2t_ok c =
-    let a = c.args in
-    record { meets = rw (← (c.r2t_ok.ensures a.tags.now a.ends.now), c.if-r2t_ok.false); stays = (refl, refl) }

@@ -14,5 +14,5 @@ returns c =
       handed = refl;
       held = ap (bit_or a.w.held) only;
       voided = refl;
-      origins = c.with_origin-origins.ensures ∙ ap (λ (x : ℕ). set a.w.origins a.conn (bit_or (get_or a.w.origins a.conn 0) x)) only;
+      origins = c.with_origin.ensures ∙ ap (λ (x : ℕ). set a.w.origins a.conn (bit_or (get_or a.w.origins a.conn 0) x)) only;
     }

@@ -1,20 +1,17 @@
 -- `window_take::handed_on` meets its contract: each map is halved, since R is one more.
-use Rattle.std.proofs.Common.{◌≡◌, ℕ, zero, suc, ◌/◌, List, [], ◌∷◌, length, get_or, refl, arith}
-use lib.ListN.{get_or-eq_default}
+use Rattle.std.proofs.Common.{◌≡◌, ℕ, zero, suc, ◌/◌, List, [], ◌∷◌, map, get_or, refl, ◌∙◌}
+use Rattle.std.proofs.lemmas.List.{length-map}
 use Rattle.window_take.proofs.Steps.{shift-agrees}
 use Rattle.window_take.proofs.handed_on.Goals as goal
 
-halves : (l : List ℕ) → length l ≡ 4 → (k : ℕ) → get_or (get_or l 0 0 / 2 ∷ get_or l 1 0 / 2 ∷ get_or l 2 0 / 2 ∷ get_or l 3 0 / 2 ∷ []) k 0 ≡ get_or l k 0 / 2
-halves l e zero = refl
-halves l e (suc zero) = refl
-halves l e (suc (suc zero)) = refl
-halves l e (suc (suc (suc zero))) = refl
-halves l e (suc (suc (suc (suc k)))) =
-    let out : get_or l (suc (suc (suc (suc k)))) 0 ≡ 0 = get_or-eq_default l 0 {n = suc (suc (suc (suc k)))} (omega arith) in
-    rw out
+halved : (l : List ℕ) (k : ℕ) → get_or (map (λ (m : ℕ). m / 2) l) k 0 ≡ get_or l k 0 / 2
+halved [] zero = refl
+halved [] (suc k) = refl
+halved (m ∷ l) zero = refl
+halved (m ∷ l) (suc k) = halved l k
 
 pub returns : goal.returns
 returns c cs b g =
     let w = c.args.w in
-    shift-agrees w _ cs b g c.wrapping_add_u32-next.ensures.value
-    c.one_more-handed.ensures refl refl refl (halves w.origins g.origins_size)
+    rw c.halves.ensures
+    (shift-agrees w _ cs b g refl c.one_more.ensures refl refl (length-map w.origins (λ (m : ℕ). m / 2) ∙ g.origins_size) (halved w.origins))

@@ -47,7 +47,7 @@ returns c =
     record {
       meets = λ b g.
           rw (e, at) (met _ _ _ _ _ b (handed_on b)
-          (take-command a.w cs b _ a.out.now g is_held_lem is_whole (c.first_origin-origin.ensures cs b g))
+          (take-command a.w cs b _ a.out.now g is_held_lem is_whole (c.origin_at-origin.ensures cs b g))
           (on.ensures cs b g));
       stays = tt;
       out_size = rw got.ensures (length-paste a.out.now 0 (drop (slot.result * 48) h) 48 (omega arith) room);

@@ -1,8 +1,7 @@
--- The columns of the code are the fields of the rows.
-use Rattle.key_table.specs.Table.{rows}
-use Rattle.key_table.proofs.Tables.{columns}
+use Rattle.std.proofs.lemmas.List.{get_or_default}
+use Rattle.key_table.specs.Table.{rows, row_at}
 use Rattle.key_table.proofs.table.row_of.Goals as goal
 
 pub returns : goal.returns
-unfolding rows
-returns c = columns c.args.k c.requires _ _
+unfolding row_at rows
+returns c = get_or_default rows c.args.k _ _ c.requires

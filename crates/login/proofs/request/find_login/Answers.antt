@@ -1,6 +1,5 @@
 -- The refusals in their order, then what the PDU is read as.
 use Rattle.login.proofs.Answers.{found-small, found-closed, found-read}
-use Prim.Native.Nat.{◌-◌}
 use Rattle.login.proofs.request.find_login.Goals as goal
 
 pub returns-then-gather-text : goal.returns-then-gather-text

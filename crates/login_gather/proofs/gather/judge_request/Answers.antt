@@ -1,9 +1,7 @@
 -- Nothing was gathered, or the piece was joined to what was, and what stood there is put back where the block is refused.
 use Rattle.login_gather.specs.Promises.{block_of}
 use Rattle.login_gather.proofs.Area.{judged-own, judged-joined}
-use Prim.Native.Nat.{◌-◌}
 use native.Mathlib.Nat.{le_trans}
-use native.Mathlib.Omega.{arith}
 use borrow.Author.Tests.{eq-eqb}
 use Rattle.login_gather.proofs.gather.judge_request.Goals as goal
 

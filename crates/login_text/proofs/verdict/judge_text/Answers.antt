@@ -3,7 +3,7 @@ use Rattle.login_book.specs.Login.{start_text}
 use Rattle.login_book.proofs.Values.{start-length}
 use Rattle.login_text.proofs.Written.{written-by, names_at}
 use mathlib.Core.Path.{◌≡◌, ◌∙◌}
-use Prim.Native.Nat.{◌≤◌, ◌-◌}
+use Prim.Native.Nat.{◌≤◌}
 use native.Mathlib.Omega.{arith}
 use lib.ListN.{length}
 use borrow.Author.Rules.{rules}

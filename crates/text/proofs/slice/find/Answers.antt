@@ -1,35 +1,19 @@
--- The invariant: i and what stands before the first x from i on make up what stands before the first x.
-use Prim.Native.Nat.{◌-◌}
+use mathlib.Core.Path.{◌≡◌, ◌∙◌}
 use native.Mathlib.Omega.{arith}
-use Rattle.text.proofs.Laws.{before-hit, before-miss, before-end}
+use lib.ListN.{length}
+use Rattle.text.specs.Text.{before}
+use Rattle.text.proofs.Words.{place_before, before_most}
+use Rattle.std.proofs.Common.{rules}
+use borrow.Author.Tests.{tests}
+use Rattle.std.proofs.lemmas.Iterator.{YieldsList-from_slice}
+use Rattle.std.proofs.lemmas.Iterator.Search.{position_from_yields_List}
+use lib.Dec.{eqb}
 use Rattle.text.proofs.slice.find.Goals as goal
-
-pub loop-i-init : goal.loop-i-init
-loop-i-init c = omega arith
-
-pub bounds-s-i : goal.bounds-s-i
-bounds-s-i c = omega arith
-
-pub returns-then-s-i : goal.returns-then-s-i
-returns-then-s-i c =
-    let l = c.loop-i in
-    let g = c.args in
-    (omega (arith, before-hit g.x g.s.now l.i (omega arith) c.if-s-i.true), omega arith)
-
-pub overflow_add-i : goal.overflow_add-i
-overflow_add-i c = omega arith
-
-pub loop-i-smaller : goal.loop-i-smaller
-loop-i-smaller c = omega arith
-
-pub loop-i-preserved : goal.loop-i-preserved
-loop-i-preserved c =
-    let l = c.loop-i in
-    let g = c.args in
-    omega (arith, before-miss g.x g.s.now l.i (omega arith) c.if-s-i.false)
 
 pub returns : goal.returns
 returns c =
-    let l = c.loop-i in
-    let g = c.args in
-    (omega (arith, before-end g.x g.s.now l.i (omega arith)), omega arith)
+    let s = c.args.s.now in
+    let p = position_from_yields_List (λ b. eqb b c.args.x) _ _ c.position.result c.position.ensures.ran
+    (YieldsList-from_slice s cc) (λ x b q k. search (rules, tests)) in
+    let e : c.unwrap_or.result ≡ length (before c.args.x s) = c.unwrap_or.ensures ∙ place_before c.args.x s c.position.result p in
+    (e, omega (arith, e, before_most c.args.x s))

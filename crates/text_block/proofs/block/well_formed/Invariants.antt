@@ -1,12 +1,9 @@
--- The invariant: after n good pairs, the form of what is left, at most 64 - n pairs, is the form of the whole. The measure is what is left.
+-- The invariant: after some good pairs, the form of what is left, with that many pairs fewer, is the form of the whole.
 use mathlib.Core.Path.{◌≡◌}
-use Prim.Native.Nat.{◌≤◌, ◌-◌}
-use lib.ListN.{length, drop}
+use Prim.Native.Nat.{◌-◌, ◌≤◌}
+use lib.ListN.{length}
 use Rattle.text_block.specs.Block.{formed}
 use Rattle.text_block.proofs.block.well_formed.Given as goal
 
-abbrev pub invariant-loop-at : goal.invariant-loop-at
-invariant-loop-at l = (l.at ≤ length l.s) × (l.n ≤ 64) × (formed (64 - l.n) (drop l.at l.s) ≡ formed 64 l.s)
-
-abbrev pub decreases-loop-at : goal.decreases-loop-at
-decreases-loop-at l = length l.s - l.at
+abbrev pub invariant-loop : goal.invariant-loop
+invariant-loop l = (length l.rest ≤ length l.s) × (formed (64 - l.counter) l.rest ≡ formed 64 l.s)

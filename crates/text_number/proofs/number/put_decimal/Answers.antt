@@ -1,6 +1,6 @@
 -- The invariant: the digits of what is left, then those written, are the digits of n. The measure is what is left.
-use mathlib.Core.Path.{◌≡◌, refl, sym, ◌∙◌}
-use mathlib.Core.List.{List, ◌++◌, append-nil}
+use mathlib.Core.Path.{◌≡◌, sym, ◌∙◌}
+use mathlib.Core.List.{List, ◌++◌}
 use Prim.Native.Nat.{ℕ, ◌≤◌, ◌<◌, ◌-◌, ◌+◌, ◌*◌, ◌^◌}
 use native.Mathlib.Omega.{arith}
 use native.Mathlib.Numerals.{add-one}
@@ -8,7 +8,7 @@ use lib.ListN.{length, take, drop, set, length-set, length-drop}
 use native.Mathlib.Nat.{pow-suc}
 use lib.Seq.{take_all}
 use Rattle.text_number.specs.Number.{decimal}
-use Rattle.text_number.proofs.Digits.{decimal_step, decimal-last, decimal-length, decimal-more}
+use Rattle.text_number.proofs.Digits.{decimal_step, decimal-last, decimal-more}
 use Rattle.text_number.proofs.number.put_decimal.Goals as goal
 
 -- what is appended

@@ -1,7 +1,7 @@
 -- The invariant: the digits of what is left, then those written, are the digits of n. The measure is what is left.
 use mathlib.Core.Path.{◌≡◌}
 use mathlib.Core.List.{◌++◌}
-use Prim.Native.Nat.{◌≤◌, ◌<◌, ◌-◌, ◌+◌, ◌^◌}
+use Prim.Native.Nat.{◌≤◌, ◌<◌, ◌+◌, ◌^◌}
 use lib.ListN.{length, drop}
 use Rattle.text_number.specs.Number.{decimal}
 use Rattle.text_number.proofs.number.put_decimal.Given as goal

@@ -1,6 +1,5 @@
 use Rattle.login_types.specs.Agree.{fresh_login}
 use Rattle.login_types.proofs.Agree.{is-fresh}
-use Prim.Native.Nat.{◌-◌}
 use Rattle.login_types.proofs.state.State.fresh.Goals as goal
 
 pub returns : goal.returns

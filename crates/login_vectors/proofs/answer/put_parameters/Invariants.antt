@@ -1,9 +1,0 @@
--- A value is written at each turn.
-use Rattle.std.proofs.Common.{◌-◌, ◌≤◌}
-use Rattle.login_vectors.proofs.answer.put_parameters.Given as goal
-
-abbrev pub invariant-loop-i : goal.invariant-loop-i
-invariant-loop-i g l = l.i ≤ 12
-
-abbrev pub decreases-loop-i : goal.decreases-loop-i
-decreases-loop-i g l = 12 - l.i

@@ -1,9 +1,0 @@
--- A part of the text is written at each turn.
-use Rattle.std.proofs.Common.{length, ◌-◌, ◌≤◌}
-use Rattle.login_vectors.proofs.answer.put_text.Given as goal
-
-abbrev pub invariant-loop-at : goal.invariant-loop-at
-invariant-loop-at g l = l.at ≤ length l.s
-
-abbrev pub decreases-loop-at : goal.decreases-loop-at
-decreases-loop-at g l = length l.s - l.at

@@ -1,4 +1,0 @@
-use Rattle.request_kinds.proofs.task_management.Goals as goal
-
-pub returns : goal.returns
-returns c = rw (c.be32.ensures, c.be32-2.ensures, c.be32-3.ensures)

@@ -1,7 +1,0 @@
-use Rattle.request_unnumbered.proofs.cmd_sn.Goals as goal
-
-pub returns-then-op : goal.returns-then-op
-returns-then-op c = rw c.if-op.true
-
-pub returns-else-op : goal.returns-else-op
-returns-else-op c = rw c.if-op.false c.be32.ensures
