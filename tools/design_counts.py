@@ -31,6 +31,17 @@ def files(commit, pattern):
         yield name, re.sub(r"//.*", "", text)
 
 
+def parameters(rest):
+    """Of a signature after its name: what stands in its first parentheses, and what stands after them."""
+    start = rest.index("(")
+    depth = 0
+    for i in range(start, len(rest)):
+        depth += {"(": 1, ")": -1}.get(rest[i], 0)
+        if depth == 0:
+            return rest[start + 1 : i], rest[i + 1 :]
+    sys.exit(f"design_counts: no end of {rest}")
+
+
 def functions(text):
     """The functions of a file: name, parameters, result, clauses, body."""
     lines = text.split("\n")
@@ -44,7 +55,7 @@ def functions(text):
         head = "\n".join(lines[i : top + 1])
         clauses = re.search(r"\n\s*(?:requires|ensures).*", head, re.S)
         signature = head[: clauses.start()] if clauses else head
-        params, _, result = signature.partition("(")[2].rpartition(")")
+        params, result = parameters(signature[m.end() :])
         yield m.group(2), params, result, clauses.group(0) if clauses else "", "\n".join(lines[top + 1 : end])
 
 
@@ -64,6 +75,7 @@ def main():
     commit = sys.argv[1] if len(sys.argv) > 1 else None
     enums, flags, codes, loops, casts, steps, tables = [], [], [], [], [], [], []
     shapes, clauses, pairs = collections.defaultdict(list), collections.defaultdict(set), collections.defaultdict(set)
+    bearers = collections.defaultdict(set)
     for name, text in files(commit, r"crates/\w+/src/.*\.rt"):
         crate = name.split("/")[1]
         for m in re.finditer(r"\benum (\w+) \{\n(.*?)\n\s*\}", text, re.S):
@@ -94,9 +106,11 @@ def main():
                 for part in re.split(r" × ", clause):
                     clauses[re.sub(r"[()]", "", part).strip()].add(at)
             given = [p.strip() for p in re.split(r",(?![^\[]*\])", params) if p.strip()]
-            for a, b in zip(given, given[1:]):
-                if crate != "capi" and not crate.endswith("_words"):
-                    pairs[f"{a}, {b}"].add(at)
+            if crate != "capi" and not crate.endswith("_words"):
+                for a, b in zip(given, given[1:]):
+                    pairs[a, b].add(at)
+                for p in given:
+                    bearers[p.replace("&mut ", "&")].add(at)
     show("1 own enums with a variant for a refusal or for nothing beside a value", enums)
     show("1 a flag ok beside the values that it is about", flags)
     show("1 numbers for refusals, statuses, or a key that there is not", codes)
@@ -104,7 +118,10 @@ def main():
     show("3 while and loop", loops)
     show("4 conversions by hand", casts)
     show("5 clauses asked for by three functions or more", [f"{len(v)} {k}" for k, v in sorted(clauses.items()) if len(v) > 2])
-    show("5 parameters side by side in three functions or more", [f"{len(v)} {k}" for k, v in sorted(pairs.items()) if len(v) > 2])
+    together = {k: v for k, v in pairs.items() if len(v) > 2}
+    show("5 parameters side by side in three functions or more", [f"{len(v)} {a}, {b}" for (a, b), v in sorted(together.items())])
+    always = [(a, b) for a, b in together if bearers[a.replace("&mut ", "&")] == bearers[b.replace("&mut ", "&")]]
+    show("5 of these, where neither ever comes without the other", [f"{a}, {b}" for a, b in sorted(always)])
     show("6 tables", tables)
     show("7 matches of a number that choose a function", steps)
     answers = sum(len(re.findall(r"^pub ", text, re.M)) for _, text in files(commit, r"crates/\w+/proofs/.*/Answers\.antt"))

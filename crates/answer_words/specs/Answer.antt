@@ -1,5 +1,7 @@
 -- A session's answer as four words: what came, and its values, 0 where it has none; and as one number, where it has one value at most.
-use Rattle.std.specs.Prelude.{ℕ, ◌%◌, ◌/◌, ◌^◌, List, [], ◌∷◌}
+use Rattle.std.specs.Prelude.{ℕ, ◌%◌, ◌/◌, ◌^◌, List, [], ◌∷◌, Result, Ok, Err}
+use Rattle.refusal.specs.declared.Refusal.{Refusal}
+use Rattle.refusal.specs.Refusal.{number}
 use Rattle.task_book.specs.Steps as T
 use Rattle.window.specs.Book as W
 use Rattle.book.specs.Book.{Reply, numbers, next_is, holding, length_is, Answer, refused, immediate, opened, window, sent, acknowledged, run, resent, moved, told}
@@ -55,6 +57,11 @@ answer_words (run f n) = 32 ∷ f ∷ n ∷ 0 ∷ []
 answer_words (resent t) = 32 ∷ t ∷ 0 ∷ 0 ∷ []
 answer_words (moved a x) = moved_words a
 answer_words (told r) = reply_words r
+
+-- a value under an answer's number, or a refusal
+abbrev pub value_words : ℕ → Result ℕ Refusal → List ℕ
+value_words a (Ok n) = a ∷ n ∷ 0 ∷ 0 ∷ []
+value_words a (Err f) = answer_words (refused (number f))
 
 -- an answer of one value at most, as one number: what came, and above its 32 bits the value
 abbrev pub packed : ℕ → List ℕ

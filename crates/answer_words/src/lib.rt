@@ -6,11 +6,11 @@ ghost use Rattle.book.specs.Book.{Answer};
 ghost use Rattle.refusal.specs.Refusal.{number};
 ghost use Rattle.window.specs.Agree.{origin_of};
 ghost use Rattle.task_book.specs.Steps as T;
-ghost use Rattle.answer_words.specs.Answer.{origin_word, moved_words, answer_words, packed};
+ghost use Rattle.answer_words.specs.Answer.{origin_word, moved_words, answer_words, value_words, packed};
 
 use refusal::Refusal;
 
-// A header was read or written, or its length told.
+// The numbers of the answers are `drawbevel.h`'s. OK: a header was read or written, or its length told.
 pub const OK: u32 = 0;
 
 pub const DONE: u32 = 32;
@@ -52,7 +52,7 @@ pub fn refused_by(number: u32) -> [u32; 4]
     [number, 0, 0, 0]
 }
 
-// An answer of one value at most, which goes back in a register.
+// An answer of one value at most, which goes back in a register. Not by `field::pair`, whose first half is the higher one.
 pub fn pack(answer: u32, value: u32) -> u64
     ensures { packed result ≡ answer ∷ value ∷ 0 ∷ 0 ∷ [] }
 {
@@ -65,7 +65,17 @@ pub fn pack_refused(f: Refusal) -> u64
     pack(refusal::number_of(f) as u32, 0)
 }
 
-// The connection that a command came on; 4 where it has none.
+// The value that a call answers with, under the answer's number; or its refusal.
+pub fn pack_value(answer: u32, value: Result<u32, Refusal>) -> u64
+    ensures { packed result ≡ value_words answer value }
+{
+    match value {
+        Ok(n) => pack(answer, n),
+        Err(f) => pack_refused(f),
+    }
+}
+
+// The connection that a command came on; 4, DRAWBEVEL_NO_ORIGIN, where it has none.
 pub fn origin_word(o: Option<u32>) -> u32
     ensures { result ≡ origin_word (origin_of o) }
 {

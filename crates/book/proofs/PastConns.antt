@@ -2,7 +2,8 @@
 -- history has it open, and its ledger holds under each number the last status sent that was not acknowledged since.
 use Prim.Native.Nat.{ℕ, zero, suc, ◌+◌, ◌-◌, ◌%◌, ◌^◌, ◌≤◌, ◌<◌}
 use mathlib.Core.Path.{◌≡◌, refl, sym, ap, ◌∙◌, subst}
-use mathlib.Core.Bool.{Bool, true, false, not, ◌&&◌, ◌||◌}
+use Rattle.std.proofs.Math.Bool.{and-false}
+use mathlib.Core.Bool.{Bool, true, false, ◌&&◌, ◌||◌}
 use mathlib.Core.List.{List, [], ◌∷◌, ◌++◌}
 use native.Mathlib.Omega.{arith}
 use native.Mathlib.Decide.{ℕ_discrete, dec_lt}
@@ -13,7 +14,7 @@ use lib.Seq.{get_or-set_same, get_or-set_other}
 use Rattle.field.specs.Field.{pick}
 use Rattle.ledger.specs.Book as L
 use Rattle.ledger.proofs.Laws.{lookup-past, lookup-end, lookup-front, lookup-drop, oldest-sent, oldest-released, oldest-lt}
-use Rattle.book.proofs.Small.{all_closed}
+use Rattle.window.proofs.Bits.{alike}
 use Rattle.book.proofs.PastWindow.{same_true, same_false}
 use Rattle.book.specs.declared.Opening.{Opening}
 use Rattle.book.specs.Book.{OpenConnection, with_ledger, opened_by, Connection, closed, live, conns_left}
@@ -63,7 +64,8 @@ pub record ConnInv (ds : List ConnectionEffect) (k : List Connection) : Type 0 w
   pub each : (c : ℕ) → c < 4 → ConnIs ds c (get_or k c closed)
 
 -- from one history to another that says the same of c
-carry : (ds ds' : List ConnectionEffect) (c : ℕ) (k : Connection) → is_open_at ds' c ≡ is_open_at ds c → ((n : ℕ) → status_in ds' c n ≡ status_in ds c n) → ConnIs ds c k → ConnIs ds' c k
+carry : (ds ds' : List ConnectionEffect) (c : ℕ) (k : Connection) → is_open_at ds' c ≡ is_open_at ds c → ((n : ℕ) → status_in ds' c n ≡ status_in ds c n)
+    → ConnIs ds c k → ConnIs ds' c k
 unfolding ConnIs
 carry ds ds' c closed p s i = p ∙ i
 carry ds ds' c (live k) p s i = record { open_now = p ∙ i.open_now; fits = i.fits; few = i.few; status = λ n. s n ∙ i.status n }
@@ -76,7 +78,8 @@ conn-still {ds = ds} {k = k} i =
 
 -- one connection changed
 change : (d : ConnectionEffect) (ds : List ConnectionEffect) (k : List Connection) (c : ℕ) (x : Connection) → ConnInv ds k → c < 4 → ConnIs (d ∷ ds) c x
-    → ((j : ℕ) → (j ≡ c → ⊥) → is_open_at (d ∷ ds) j ≡ is_open_at ds j) → ((j n : ℕ) → (j ≡ c → ⊥) → status_in (d ∷ ds) j n ≡ status_in ds j n) → ConnInv (d ∷ ds) (set k c x)
+    → ((j : ℕ) → (j ≡ c → ⊥) → is_open_at (d ∷ ds) j ≡ is_open_at ds j) → ((j n : ℕ) → (j ≡ c → ⊥) → status_in (d ∷ ds) j n ≡ status_in ds j n)
+    → ConnInv (d ∷ ds) (set k c x)
 change d ds k c x i l h p s = record { four = length-set k c x ∙ i.four; near = λ j o. low j o (ℕ_discrete j c); each = λ j lj. go j lj (ℕ_discrete j c) }
   where
     low : (j : ℕ) → is_open_at (d ∷ ds) j ≡ true → Dec (j ≡ c) → j < 4
@@ -87,7 +90,8 @@ change d ds k c x i l h p s = record { four = length-set k c x ∙ i.four; near 
     go j lj (yes q) = rw (q, get_or-set_same k c x closed (omega (arith, i.four))) h
     go j lj (no q) = rw (get_or-set_other k c j x closed q) (carry ds (d ∷ ds) j (get_or k j closed) (p j q) (λ n. s j n q) (i.each j lj))
 
-pub conn-open : (ds : List ConnectionEffect) (k : List Connection) (c : ℕ) (o : Opening) → ConnInv ds k → c < 4 → ConnInv (opens c o ∷ ds) (set k c (live (opened_by o)))
+pub conn-open : (ds : List ConnectionEffect) (k : List Connection) (c : ℕ) (o : Opening) → ConnInv ds k → c < 4
+    → ConnInv (opens c o ∷ ds) (set k c (live (opened_by o)))
 conn-open ds k c o i l = change (opens c o) ds k c (live (opened_by o)) i l here other-open other-status
   where
     here : ConnIs (opens c o ∷ ds) c (live (opened_by o))
@@ -147,7 +151,8 @@ status-sent q s n l f = go (same n q.next) refl
     go false e =
         rw (e, same_place) (unfold L.sent in (split (L.place q n) (λ x. same_false n q.next e (place-next q n l (omega arith) x))))
 
-pub conn-send : (ds : List ConnectionEffect) (k : List Connection) (c t : ℕ) (h : List ℕ) (x : OpenConnection) → ConnInv ds k → c < 4 → get_or k c closed ≡ live x → length x.ledger.held < 32
+pub conn-send : (ds : List ConnectionEffect) (k : List Connection) (c t : ℕ) (h : List ℕ) (x : OpenConnection) → ConnInv ds k → c < 4
+    → get_or k c closed ≡ live x → length x.ledger.held < 32
     → ConnInv (sends c x.ledger.next t h ∷ ds) (set k c (live (with_ledger x (L.sent x.ledger (record { header = h; ticket = t })))))
 conn-send ds k c t h x i l e f = change (sends c q.next t h) ds k c (live (with_ledger x (L.sent q s))) i l here other-open other-status
   where
@@ -199,14 +204,12 @@ precedes-false : (q : L.LedgerBook) (n x : ℕ) → L.place q x ≤ L.place q n 
 unfolding precedes L.place
 precedes-false q n x l m = go (ℕ_discrete ((x + (2 ^ 32 - n % 2 ^ 32)) % 2 ^ 32) 0)
   where
-    both : (t : Bool) → (t && false) ≡ false
-    both true = refl
-    both false = refl
-
-    go : Dec ((x + (2 ^ 32 - n % 2 ^ 32)) % 2 ^ 32 ≡ 0) → (ltb 0 ((x + (2 ^ 32 - n % 2 ^ 32)) % 2 ^ 32) && ltb ((x + (2 ^ 32 - n % 2 ^ 32)) % 2 ^ 32) (2 ^ 31)) ≡ false
+    go : Dec ((x + (2 ^ 32 - n % 2 ^ 32)) % 2 ^ 32 ≡ 0)
+        → (ltb 0 ((x + (2 ^ 32 - n % 2 ^ 32)) % 2 ^ 32) && ltb ((x + (2 ^ 32 - n % 2 ^ 32)) % 2 ^ 32) (2 ^ 31)) ≡ false
     go (yes e) = rw (le-ltb 0 ((x + (2 ^ 32 - n % 2 ^ 32)) % 2 ^ 32) (omega arith))
     go (no e) =
-        rw (le-ltb ((x + (2 ^ 32 - n % 2 ^ 32)) % 2 ^ 32) (2 ^ 31) (kept (L.oldest q) n x (oldest-lt q) l m e)) (both (ltb 0 ((x + (2 ^ 32 - n % 2 ^ 32)) % 2 ^ 32)))
+        rw (le-ltb ((x + (2 ^ 32 - n % 2 ^ 32)) % 2 ^ 32) (2 ^ 31) (kept (L.oldest q) n x (oldest-lt q) l m e))
+        (and-false (ltb 0 ((x + (2 ^ 32 - n % 2 ^ 32)) % 2 ^ 32)))
 
 less : (o n p : ℕ) → o < 2 ^ 32 → p ≤ 32 → (n + (2 ^ 32 - o)) % 2 ^ 32 < p → 2 ^ 32 - 32 ≤ (n + (2 ^ 32 - (o + p) % 2 ^ 32)) % 2 ^ 32
 less o n p lo l m = omega arith
@@ -233,7 +236,8 @@ status-released q x n l f g = go (dec_lt (L.place q n) (L.place q x))
     held-is : (L.released q x).held ≡ drop (L.place q x) q.held
     held-is = unfold L.released in refl
 
-    go : Dec (L.place q n < L.place q x) → L.lookup (L.released q x).held (L.place (L.released q x) n) ≡ pick (precedes n x) L.missing (L.lookup q.held (L.place q n))
+    go : Dec (L.place q n < L.place q x)
+        → L.lookup (L.released q x).held (L.place (L.released q x) n) ≡ pick (precedes n x) L.missing (L.lookup q.held (L.place q n))
     go (yes a) =
         let big : 2 ^ 32 - 32 ≤ L.place (L.released q x) n = rw as' (place-less q n (L.place q x) (omega arith) a) in
         ap (λ (h : List L.Status). L.lookup h (L.place (L.released q x) n)) held-is
@@ -246,8 +250,7 @@ status-released q x n l f g = go (dec_lt (L.place q n) (L.place q x))
         ∙ ap (L.lookup q.held) e ∙ at (dec_lt (L.place q n) (length q.held))
       where
         either : (t : Bool) (u : L.Found) → u ≡ L.missing → u ≡ pick t L.missing u
-        either true u e = e
-        either false u e = refl
+        either t u e = grind arith
 
         at : Dec (L.place q n < length q.held) → L.lookup q.held (L.place q n) ≡ pick (precedes n x) L.missing (L.lookup q.held (L.place q n))
         at (yes b) = rw (precedes-false q n x (omega arith) (omega arith))
@@ -281,10 +284,15 @@ conn-ack ds k c x y i l e g = change (acknowledges c x) ds k c (live (with_ledge
 
 pub conn-logs : (ds : List ConnectionEffect) (k : List Connection) (c r : ℕ) → ConnInv ds k → c < 4 → ConnInv (closes c r ∷ ds) (conns_left k c r)
 unfolding conns_left is_open_at
-conn-logs ds k c r i l = record { four = size (ℕ_discrete r 0); near = λ j o. low j (eqb r 0 || eqb j c) o; each = λ j lj. go j lj (ℕ_discrete r 0) (ℕ_discrete j c) }
+conn-logs ds k c r i l = record {
+  four = size (ℕ_discrete r 0);
+  near = λ j o. low j (eqb r 0 || eqb j c) o;
+  each = λ j lj. go j lj (ℕ_discrete r 0)
+      (ℕ_discrete j c);
+}
   where
     low : (j : ℕ) (u : Bool) → pick u false (is_open_at ds j) ≡ true → j < 4
-    low j true o = let z : ◌≡◌ {A = ℕ} 0 1 = cc in absurd (omega arith)
+    low j true o = absurd cc
     low j false o = i.near j o
 
     size : Dec (r ≡ 0) → length (conns_left k c r) ≡ 4
@@ -292,12 +300,14 @@ conn-logs ds k c r i l = record { four = size (ℕ_discrete r 0); near = λ j o.
     size (no z) = rw (ne_eqb r 0 z) (length-set k c closed ∙ i.four)
 
     go : (j : ℕ) → j < 4 → Dec (r ≡ 0) → Dec (j ≡ c) → ConnIs (closes c r ∷ ds) j (get_or (conns_left k c r) j closed)
-    go j lj (yes z) d = rw (eq-eqb r 0 z, all_closed 4 j) (unfold ConnIs in (unfold is_open_at in (rw (eq-eqb r 0 z))))
+    go j lj (yes z) d = rw (eq-eqb r 0 z, alike closed 4 j) (unfold ConnIs in (unfold is_open_at in (rw (eq-eqb r 0 z))))
     go j lj (no z) (yes q) =
-        rw (ne_eqb r 0 z, q, get_or-set_same k c closed closed (omega (arith, i.four))) (unfold ConnIs in (unfold is_open_at in (rw (ne_eqb r 0 z, eq-eqb c c refl))))
+        rw (ne_eqb r 0 z, q, get_or-set_same k c closed closed (omega (arith, i.four))) (unfold ConnIs in
+        (unfold is_open_at in (rw (ne_eqb r 0 z, eq-eqb c c refl))))
     go j lj (no z) (no q) =
         rw (ne_eqb r 0 z, get_or-set_other k c j closed closed q)
-        (carry ds (closes c r ∷ ds) j (get_or k j closed) (unfold is_open_at in (rw (ne_eqb r 0 z, ne_eqb j c q))) (λ n. unfold status_in in (unfold acknowledged_since in (unfold last_sent in refl))) (i.each j lj))
+        (carry ds (closes c r ∷ ds) j (get_or k j closed) (unfold is_open_at in (rw (ne_eqb r 0 z, ne_eqb j c q)))
+        (λ n. unfold status_in in (unfold acknowledged_since in (unfold last_sent in refl))) (i.each j lj))
 
 pub conn-fresh : (o : Opening) → ConnInv [] (live (opened_by o) ∷ closed ∷ closed ∷ closed ∷ [])
 conn-fresh o = record { four = refl; near = λ c p. zero-only c (ℕ_discrete c 0) p; each = go }
@@ -311,7 +321,8 @@ conn-fresh o = record { four = refl; near = λ c p. zero-only c (ℕ_discrete c 
       open_now = unfold is_open_at in refl;
       fits = unfold opened_by in (unfold L.fresh_ledger in (omega arith));
       few = unfold opened_by in (unfold L.fresh_ledger in (omega arith));
-      status = λ m. unfold status_in in (unfold acknowledged_since in (unfold last_sent in (unfold L.status_of in (unfold opened_by in (unfold L.fresh_ledger in (unfold L.lookup in refl))))));
+      status = λ m. unfold status_in in (unfold acknowledged_since in (unfold last_sent in (unfold L.status_of in
+          (unfold opened_by in (unfold L.fresh_ledger in (unfold L.lookup in refl))))));
     })
     go (suc zero) l = unfold ConnIs in (unfold is_open_at in refl)
     go (suc (suc zero)) l = unfold ConnIs in (unfold is_open_at in refl)

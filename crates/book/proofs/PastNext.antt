@@ -12,7 +12,7 @@ use lib.ListN.{length, get_or, set, replicate}
 use lib.Seq.{get_or-set_same, get_or-set_other}
 use Rattle.field.specs.Field.{pick}
 use Rattle.ledger.specs.Book as L
-use Rattle.book.proofs.Small.{all_closed}
+use Rattle.window.proofs.Bits.{alike}
 use Rattle.book.specs.declared.Given.{Given}
 use Rattle.book.specs.declared.Opening.{Opening}
 use Rattle.book.specs.Book.{OpenConnection, with_ledger, opened_by, Connection, closed, live, conns_left}
@@ -59,7 +59,8 @@ module _ (g : Given) (ds : List ConnectionEffect) where
       other j q = rw (ne_eqb j c q)
 
   -- a status sent uses up one number
-  pub next-send : (k : List Connection) (c n t : ℕ) (h : List ℕ) (s : L.Status) (x : OpenConnection) → NextInv g ds k → c < length k → get_or k c closed ≡ live x
+  pub next-send : (k : List Connection) (c n t : ℕ) (h : List ℕ) (s : L.Status) (x : OpenConnection) → NextInv g ds k → c < length k
+      → get_or k c closed ≡ live x
       → NextInv g (sends c n t h ∷ ds) (set k c (live (with_ledger x (L.sent x.ledger s))))
   unfolding NextIs L.sent next_number first_stat_sn statuses_sent
   next-send k c n t h s x i l e = change (sends c n t h) k c (live (with_ledger x (L.sent x.ledger s))) i l here other
@@ -97,7 +98,7 @@ module _ (g : Given) (ds : List ConnectionEffect) where
       shut j = tt
 
       go : (u : Bool) (j : ℕ) → NextIs g (closes c r ∷ ds) j (get_or (pick u (replicate 4 closed) (set k c closed)) j closed)
-      go true j = rw (all_closed 4 j) (shut j)
+      go true j = rw (alike closed 4 j) (shut j)
       go false j = (change (closes c r) k c closed i l (shut c) (λ m q. same_number m)).each j
 
 -- a fresh session: connection 0 begins at what the session was given

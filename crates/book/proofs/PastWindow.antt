@@ -6,18 +6,19 @@ use mathlib.Core.Bool.{Bool, true, false, not, ◌&&◌, ◌||◌}
 use mathlib.Core.List.{List, [], ◌∷◌, ◌++◌}
 use native.Mathlib.Nat.{add-zero, zero-add}
 use native.Mathlib.Omega.{arith}
-use native.Mathlib.Decide.{ℕ_discrete, dec_lt, dec_le}
-use borrow.Author.Tests.{lt-ltb, le-ltb, le-leb, lt-leb, eq-eqb, ne_eqb, eqb-true}
+use native.Mathlib.Decide.{dec_lt}
+use borrow.Author.Tests.{tests, lt-ltb, le-ltb, le-leb, lt-leb, eq-eqb, eqb-true}
 use lib.Dec.{ltb, leb, eqb}
 use lib.ListN.{length, get_or, set, drop, replicate, length-append, length-drop, length-set, length-replicate, get_or-eq_default}
 use lib.Seq.{get_or-set_same, get_or-set_other}
 use Rattle.field.specs.Field.{pick}
+use Rattle.task_book.proofs.Tests.{both}
 use Rattle.window.specs.Book as W
 use Rattle.window.specs.Book.{Origin, connection, is_from, Place, empty, holds, Command, sum_of, emptied_at, one-if}
 use Rattle.window.specs.Agree.{held_bit}
-use Rattle.window.proofs.Bits.{shifted, all-empty}
-use Rattle.window.proofs.Left.{left-before, left_after, length-left}
-use Rattle.book.proofs.Small.{apart, share-some, share-fits}
+use Rattle.window.proofs.Bits.{shifted, alike}
+use Rattle.window.proofs.Left.{left-before, left_after, length-left, held-before}
+use Rattle.book.proofs.Small.{share-some, share-fits}
 use Rattle.book.specs.declared.Given.{Given}
 use Rattle.book.specs.Book.{share}
 use Rattle.book.specs.Effects.{WindowEffect, keeps, hands_out, logs_out}
@@ -70,12 +71,7 @@ distance_is g ds w n i = rw (next-is g ds w i)
 
 pub held-is : (g : Given) (ds : List WindowEffect) (w : W.Book) (n : ℕ) → WindowInv g ds w → held g ds n ≡ is_held (get_or w.held (W.distance w n) empty)
 unfolding place_in place_of is_held
-held-is g ds w n i = go (held g ds n) refl ∙ ap is_held (i.places n)
-  where
-    go : (u : Bool) → held g ds n ≡ u
-        → held g ds n ≡ is_held (pick (held g ds n) (holds (record { header = header_in (latest_offer ds n); ticket = ticket_in (latest_offer ds n); origin = origin_of ds n; void = voided_since g ds n })) empty)
-    go true q = rw q
-    go false q = rw q
+held-is g ds w n i = grind (arith, i.places n)
 
 -- ---- a call that does nothing to the window
 
@@ -91,7 +87,7 @@ same_true n m e = eqb-true (n % 2 ^ 32) (m % 2 ^ 32) e
 
 pub same_false : (n m : ℕ) → same n m ≡ false → n % 2 ^ 32 ≡ m % 2 ^ 32 → ⊥
 unfolding same
-same_false n m e q = let z : ◌≡◌ {A = ℕ} 0 1 = cc (e, eq-eqb (n % 2 ^ 32) (m % 2 ^ 32) q) in omega arith
+same_false n m e q = cc (e, eq-eqb (n % 2 ^ 32) (m % 2 ^ 32) q)
 
 shift_same : (x n m : ℕ) → x < 2 ^ 32 → n % 2 ^ 32 ≡ m % 2 ^ 32 → (n + (2 ^ 32 - x)) % 2 ^ 32 ≡ (m + (2 ^ 32 - x)) % 2 ^ 32
 shift_same x n m l e = omega arith
@@ -140,10 +136,12 @@ window-keeps g ds w m c t h i l z = record {
     stays n = unfold W.distance in (unfold W.next in refl)
 
     at : (n : ℕ) (u : Bool) → same n m ≡ u
-        → place_of (pick (same n m) true (held g ds n)) (pick (same n m) (by c t h) (latest_offer ds n)) (pick (same n m) (connection c) (origin_of ds n)) (pick (same n m) false (voided_since g ds n))
+        → place_of (pick (same n m) true (held g ds n)) (pick (same n m) (by c t h) (latest_offer ds n)) (pick (same n m) (connection c) (origin_of ds n))
+        (pick (same n m) false (voided_since g ds n))
         ≡ get_or (set w.held (W.distance w m) (holds e)) (W.distance (W.keeping w (W.distance w m) e) n) empty
     at n true q =
-        rw (q, stays n, distance-same w n m (same_true n m q), get_or-set_same w.held (W.distance w m) (holds e) empty (omega (arith, i.size))) (unfold place_of in refl)
+        rw (q, stays n, distance-same w n m (same_true n m q), get_or-set_same w.held (W.distance w m) (holds e) empty (omega (arith, i.size)))
+        (unfold place_of in refl)
     at n false q =
         rw (q, stays n, get_or-set_other w.held (W.distance w m) (W.distance w n) (holds e) empty (λ x. same_false n m q (distance_back w n m x))) (i.places n)
 
@@ -208,6 +206,9 @@ window-hands g ds w e i q = record {
 
 -- ---- the gap, and counts
 
+next_at : (k j : ℕ) → suc k + j ≡ k + suc j
+next_at k j = omega arith
+
 run-gap : (h : ℕ → Bool) (l : List Place) (k m : ℕ) → length l ≡ m → ((j : ℕ) → j < m → h (k + j) ≡ is_held (get_or l j empty)) → held_run h k m ≡ W.gapless l
 unfolding held_run W.gapless
 run-gap h [] k zero e q = refl
@@ -215,41 +216,37 @@ run-gap h [] k (suc m) e q = absurd (omega arith)
 run-gap h (x ∷ l) k zero e q = absurd (omega arith)
 run-gap h (x ∷ l) k (suc m) e q =
     let here : h k ≡ is_held x = ap h (sym (add-zero k)) ∙ q 0 (omega arith) in
-    let rest : held_run h (suc k) m ≡ W.gapless l = run-gap h l (suc k) m (omega arith) (λ j b. ap h (after k j) ∙ q (suc j) (omega arith)) in
+    let rest : held_run h (suc k) m ≡ W.gapless l = run-gap h l (suc k) m (omega arith) (λ j b. ap h (next_at k j) ∙ q (suc j) (omega arith)) in
     rw (here, rest) (go x l)
   where
-    after : (k j : ℕ) → suc k + j ≡ k + suc j
-    after k j = omega arith
-
     go : (x : Place) (l : List Place) → pick (is_held x) (suc (W.gapless l)) 0 ≡ W.gapless (x ∷ l)
     go empty l = unfold is_held in refl
     go (holds e) l = unfold is_held in refl
 
-count_held : (h : ℕ → Bool) (l : List Place) (k m : ℕ) → length l ≡ m → ((j : ℕ) → j < m → h (k + j) ≡ is_held (get_or l j empty)) → held_count h k m ≡ sum_of held_bit l
+count_held : (h : ℕ → Bool) (l : List Place) (k m : ℕ) → length l ≡ m → ((j : ℕ) → j < m → h (k + j) ≡ is_held (get_or l j empty))
+    → held_count h k m ≡ sum_of held_bit l
 unfolding held_count sum_of
 count_held h [] k zero e q = refl
 count_held h [] k (suc m) e q = absurd (omega arith)
 count_held h (x ∷ l) k zero e q = absurd (omega arith)
 count_held h (x ∷ l) k (suc m) e q =
     let here : h k ≡ is_held x = ap h (sym (add-zero k)) ∙ q 0 (omega arith) in
-    let rest : held_count h (suc k) m ≡ sum_of held_bit l = count_held h l (suc k) m (omega arith) (λ j b. ap h (after k j) ∙ q (suc j) (omega arith)) in
+    let rest : held_count h (suc k) m ≡ sum_of held_bit l = count_held h l (suc k) m (omega arith) (λ j b. ap h (next_at k j) ∙ q (suc j) (omega arith)) in
     ap₂ (λ (a b : ℕ). a + b) (ap one-if here ∙ go x) rest
   where
-    after : (k j : ℕ) → suc k + j ≡ k + suc j
-    after k j = omega arith
-
     go : (x : Place) → one-if (is_held x) ≡ held_bit x
-    go empty = unfold is_held in (unfold held_bit in refl)
-    go (holds e) = unfold is_held in (unfold held_bit in refl)
+    go x = unfold is_held in (unfold held_bit in (grind arith))
 
 near : (x j : ℕ) → x < 2 ^ 32 → j < 64 → (x + j + (2 ^ 32 - x)) % 2 ^ 32 ≡ j
 near x j l h = omega arith
 
 place-near : (g : Given) (ds : List WindowEffect) (w : W.Book) → WindowInv g ds w → (j : ℕ) → j < share g → W.distance w (next g ds + j) ≡ j
 unfolding W.distance
-place-near g ds w i j l = ap (λ (x : ℕ). (x + j + (2 ^ 32 - W.next w)) % 2 ^ 32) (next-is g ds w i) ∙ near (W.next w) j (next-lt w) (omega (arith, share-fits g))
+place-near g ds w i j l = ap (λ (x : ℕ). (x + j + (2 ^ 32 - W.next w)) % 2 ^ 32) (next-is g ds w i)
+    ∙ near (W.next w) j (next-lt w) (omega (arith, share-fits g))
 
-held-near : (g : Given) (ds : List WindowEffect) (w : W.Book) → WindowInv g ds w → (j : ℕ) → j < share g → held g ds (next g ds + j) ≡ is_held (get_or w.held j empty)
+held-near : (g : Given) (ds : List WindowEffect) (w : W.Book) → WindowInv g ds w → (j : ℕ) → j < share g
+    → held g ds (next g ds + j) ≡ is_held (get_or w.held j empty)
 held-near g ds w i j l = held-is g ds w (next g ds + j) i ∙ ap (λ (d : ℕ). is_held (get_or w.held d empty)) (place-near g ds w i j l)
 
 pub place-first : (g : Given) (ds : List WindowEffect) (w : W.Book) → WindowInv g ds w → place_in g ds (next g ds) ≡ W.first_place w
@@ -260,11 +257,13 @@ place-first g ds w i =
 
 pub gap_is : (g : Given) (ds : List WindowEffect) (w : W.Book) → WindowInv g ds w → gapless g ds ≡ W.gapless w.held
 unfolding gapless
-gap_is g ds w i = run-gap (λ k. held g ds (next g ds + k)) w.held 0 (share g) i.size (λ j l. ap (λ (x : ℕ). held g ds (next g ds + x)) (zero-add j) ∙ held-near g ds w i j l)
+gap_is g ds w i = run-gap (λ k. held g ds (next g ds + k)) w.held 0 (share g) i.size (λ j l. ap (λ (x : ℕ). held g ds (next g ds + x)) (zero-add j)
+    ∙ held-near g ds w i j l)
 
 pub count-is : (g : Given) (ds : List WindowEffect) (w : W.Book) → WindowInv g ds w → held_now g ds ≡ sum_of held_bit w.held
 unfolding held_now
-count-is g ds w i = count_held (λ k. held g ds (next g ds + k)) w.held 0 (share g) i.size (λ j l. ap (λ (x : ℕ). held g ds (next g ds + x)) (zero-add j) ∙ held-near g ds w i j l)
+count-is g ds w i = count_held (λ k. held g ds (next g ds + k)) w.held 0 (share g) i.size (λ j l. ap (λ (x : ℕ). held g ds (next g ds + x)) (zero-add j)
+    ∙ held-near g ds w i j l)
 
 pub exp-is : (g : Given) (ds : List WindowEffect) (w : W.Book) → WindowInv g ds w → exp_cmd_sn_of g ds ≡ W.exp_cmd_sn_of w
 unfolding exp_cmd_sn_of W.exp_cmd_sn_of
@@ -276,80 +275,29 @@ max-is g ds w i = rw (next-is g ds w i, i.share)
 
 -- ---- a logout
 
--- a command that the logout concerns or not, before ExpCmdSN: z is reason 0, y reason 2, x that it is the connection's
-lost : (hd : List ℕ) (t : ℕ) (o : Origin) (z y x v : Bool) → (z && y) ≡ false
-    → holds (record { header = hd; ticket = t; origin = pick (y && x) W.none o; void = v || (not y && ((z || x) && true)) })
-    ≡ holds (pick (z || x) (pick y (record { header = hd; ticket = t; origin = W.none; void = v }) (record { header = hd; ticket = t; origin = o; void = true }))
-    (record { header = hd; ticket = t; origin = o; void = v }))
-lost hd t o true true x v q = let k : ◌≡◌ {A = ℕ} 0 1 = cc in absurd (omega arith)
-lost hd t o true false x true q = refl
-lost hd t o true false x false q = refl
-lost hd t o false true true true q = refl
-lost hd t o false true true false q = refl
-lost hd t o false true false true q = refl
-lost hd t o false true false false q = refl
-lost hd t o false false true true q = refl
-lost hd t o false false true false q = refl
-lost hd t o false false false true q = refl
-lost hd t o false false false false q = refl
-
--- and after it
-gone : (hd : List ℕ) (t : ℕ) (o : Origin) (z y x v : Bool)
-    → pick (true && not ((z || x) && true)) (holds (record { header = hd; ticket = t; origin = pick (y && x) W.none o; void = v || (not y && ((z || x) && false)) })) empty
-    ≡ pick (z || x) empty (holds (record { header = hd; ticket = t; origin = o; void = v }))
-gone hd t o true y x v = refl
-gone hd t o false y true v = refl
-gone hd t o false true false true = refl
-gone hd t o false true false false = refl
-gone hd t o false false false true = refl
-gone hd t o false false false false = refl
-
-reasons-apart : (r : ℕ) → (eqb r 0 && eqb r 2) ≡ false
-reasons-apart r = go (ℕ_discrete r 0)
-  where
-    go : Dec (r ≡ 0) → (eqb r 0 && eqb r 2) ≡ false
-    go (yes e) = rw e
-    go (no n) = rw (ne_eqb r 0 n)
-
-and-not : (t : Bool) → (t && not true) ≡ false
-and-not true = refl
-and-not false = refl
-
 -- what a logout leaves of a place, before ExpCmdSN and after it
 left_in : (c r : ℕ) (h : Bool) (l : Latest) (o : Origin) (v : Bool)
     → place_of (h && not (concerned c r o && not true)) l (pick (eqb r 2 && is_from c o) W.none o) (v || (not (eqb r 2) && (concerned c r o && true)))
     ≡ W.before c r (place_of h l o v)
 unfolding place_of W.before W.spared W.concerns concerned
-left_in c r false l o v = refl
-left_in c r true l o v = rw (and-not (eqb r 0 || is_from c o)) (lost (header_in l) (ticket_in l) o (eqb r 0) (eqb r 2) (is_from c o) v (reasons-apart r))
+left_in c r h l o v = grind (arith, tests)
 
 left_out : (c r : ℕ) (h : Bool) (l : Latest) (o : Origin) (v : Bool)
     → place_of (h && not (concerned c r o && not false)) l (pick (eqb r 2 && is_from c o) W.none o) (v || (not (eqb r 2) && (concerned c r o && false)))
     ≡ W.after c r (place_of h l o v)
 unfolding place_of W.after W.concerns concerned
-left_out c r false l o v = refl
-left_out c r true l o v = gone (header_in l) (ticket_in l) o (eqb r 0) (eqb r 2) (is_from c o) v
+left_out c r h l o v = grind (arith, tests)
 
 after-sum : (c r : ℕ) (p : Place) → held_bit (W.after c r p) + emptied_at c r p ≡ held_bit p
 unfolding held_bit W.after emptied_at
-after-sum c r empty = refl
-after-sum c r (holds e) = go (W.concerns c r e)
-  where
-    go : (t : Bool) → held_bit (pick t empty (holds e)) + one-if t ≡ 1
-    go true = refl
-    go false = refl
-
-before-sum : (c r : ℕ) (p : Place) → held_bit (W.before c r p) ≡ held_bit p
-unfolding held_bit W.before
-before-sum c r empty = refl
-before-sum c r (holds e) = refl
+after-sum c r p = grind arith
 
 left-sum : (c r g : ℕ) (l : List Place) → sum_of held_bit (W.left c r g l) + sum_of (emptied_at c r) (drop g l) ≡ sum_of held_bit l
 unfolding sum_of W.left
 left-sum c r zero [] = refl
 left-sum c r (suc g) [] = refl
 left-sum c r zero (p ∷ l) = omega (arith, left-sum c r zero l, after-sum c r p)
-left-sum c r (suc g) (p ∷ l) = omega (arith, left-sum c r g l, before-sum c r p)
+left-sum c r (suc g) (p ∷ l) = omega (arith, left-sum c r g l, held-before c r p)
 
 pub window-logs : (g : Given) (ds : List WindowEffect) (w : W.Book) (c r v : ℕ) → WindowInv g ds w
     → WindowInv g (logs_out c r (sum_of (emptied_at c r) (drop (W.gapless w.held) w.held)) v ∷ ds) (W.after_logout w c r (W.gapless w.held))
@@ -388,16 +336,7 @@ window-logs g ds w c r v i = record {
 -- ---- the last numbers handed out
 
 one_more : (x k h : ℕ) → 0 < k → leb x (min (k - 1) h) ≡ leb (suc x) (min k (suc h))
-one_more x k h l = go (dec_le x (min (k - 1) h))
-  where
-    go : Dec (x ≤ min (k - 1) h) → leb x (min (k - 1) h) ≡ leb (suc x) (min k (suc h))
-    go (yes a) =
-        let b : suc x ≤ min k (suc h) = omega arith in
-        le-leb x (min (k - 1) h) a ∙ sym (le-leb (suc x) (min k (suc h)) b)
-    go (no a) =
-        let c : min (k - 1) h < x = omega arith in
-        let b : min k (suc h) < suc x = omega arith in
-        lt-leb x (min (k - 1) h) c ∙ sym (lt-leb (suc x) (min k (suc h)) b)
+one_more x k h l = grind (arith, tests)
 
 distance-lt : (g : Given) (ds : List WindowEffect) (n : ℕ) → distance g ds n < 2 ^ 32
 unfolding distance
@@ -421,11 +360,13 @@ hand-last g ds m n e s =
     mods : (a m : ℕ) → m ≡ a % 2 ^ 32 → m % 2 ^ 32 ≡ a % 2 ^ 32
     mods a m e = omega arith
 
-last-hands : (g : Given) (k : ℕ) (ds : List WindowEffect) (m n : ℕ) → m ≡ next g ds → among_last (k - 1) ds n ≡ leb (2 ^ 32 - distance g ds n) (min (k - 1) (hand_outs ds))
+last-hands : (g : Given) (k : ℕ) (ds : List WindowEffect) (m n : ℕ) → m ≡ next g ds
+    → among_last (k - 1) ds n ≡ leb (2 ^ 32 - distance g ds n) (min (k - 1) (hand_outs ds))
     → (ltb 0 k && (same n m || among_last (k - 1) ds n)) ≡ leb (2 ^ 32 - distance g (hands_out m ∷ ds) n) (min k (suc (hand_outs ds)))
 last-hands g k ds m n e ih = go (dec_lt 0 k) (same n m) refl
   where
-    go : Dec (0 < k) → (t : Bool) → same n m ≡ t → (ltb 0 k && (same n m || among_last (k - 1) ds n)) ≡ leb (2 ^ 32 - distance g (hands_out m ∷ ds) n) (min k (suc (hand_outs ds)))
+    go : Dec (0 < k) → (t : Bool) → same n m ≡ t
+        → (ltb 0 k && (same n m || among_last (k - 1) ds n)) ≡ leb (2 ^ 32 - distance g (hands_out m ∷ ds) n) (min k (suc (hand_outs ds)))
     go (no z) t s =
         let lt : min k (suc (hand_outs ds)) < 2 ^ 32 - distance g (hands_out m ∷ ds) n = omega (arith, distance-lt g (hands_out m ∷ ds) n) in
         rw (le-ltb 0 k (omega arith)) (sym (lt-leb _ _ lt))
@@ -436,7 +377,8 @@ last-hands g k ds m n e ih = go (dec_lt 0 k) (same n m) refl
         let x : 2 ^ 32 - distance g (hands_out m ∷ ds) n ≡ suc (2 ^ 32 - distance g ds n) = omega (arith, hand-turn g ds m n e s, distance-lt g ds n) in
         rw (lt-ltb 0 k p, s, x, ih) (one_more (2 ^ 32 - distance g ds n) k (hand_outs ds) p)
 
-pub last-is : (g : Given) (k : ℕ) (ds : List WindowEffect) (n : ℕ) → AllNumbered g ds → k ≤ 2 ^ 31 → among_last k ds n ≡ leb (2 ^ 32 - distance g ds n) (min k (hand_outs ds))
+pub last-is : (g : Given) (k : ℕ) (ds : List WindowEffect) (n : ℕ) → AllNumbered g ds → k ≤ 2 ^ 31
+    → among_last k ds n ≡ leb (2 ^ 32 - distance g ds n) (min k (hand_outs ds))
 unfolding among_last AllNumbered hand_outs
 last-is g k [] n h l = sym (lt-leb (2 ^ 32 - distance g [] n) (min k 0) (omega (arith, distance-lt g [] n)))
 last-is g k (keeps m c t x ∷ ds) n h l = last-is g k ds n h l ∙ unfold distance in (unfold next in refl)
@@ -446,24 +388,20 @@ last-is g k (WindowEffect.none ∷ ds) n h l = last-is g k ds n h l ∙ unfold d
 
 -- ---- a number that is held was offered
 
-and_left : (a b : Bool) → (a && b) ≡ true → a ≡ true
-and_left true b e = refl
-and_left false b e = e
-
 pub was-offered : (g : Given) (ds : List WindowEffect) (n : ℕ) → held g ds n ≡ true → latest_offer ds n ≡ Latest.none → ⊥
 unfolding held latest_offer
-was-offered g [] n h l = apart h refl
+was-offered g [] n h l = cc
 was-offered g (keeps m c t x ∷ ds) n h l = go (same n m) refl (λ a b. was-offered g ds n a b)
   where
     go : (u : Bool) → same n m ≡ u → (held g ds n ≡ true → latest_offer ds n ≡ Latest.none → ⊥) → ⊥
-    go true s ih = let y : by c t x ≡ Latest.none = rw s at l in let z : ◌≡◌ {A = ℕ} 0 1 = cc in omega arith
+    go true s ih = let y : by c t x ≡ Latest.none = rw s at l in cc
     go false s ih = ih (rw s at h) (rw s at l)
 was-offered g (hands_out m ∷ ds) n h l = go (same n m) refl (λ a. was-offered g ds n a l)
   where
     go : (u : Bool) → same n m ≡ u → (held g ds n ≡ true → ⊥) → ⊥
-    go true s ih = apart (rw s at h) refl
+    go true s ih = cc (rw s at h)
     go false s ih = ih (rw s at h)
-was-offered g (logs_out c r e v ∷ ds) n h l = was-offered g ds n (and_left _ _ h) l
+was-offered g (logs_out c r e v ∷ ds) n h l = was-offered g ds n (both _ _ h).0 l
 was-offered g (WindowEffect.none ∷ ds) n h l = was-offered g ds n h l
 
 -- ---- a fresh window
@@ -480,7 +418,7 @@ window-fresh g = record {
   handed = refl;
   share = refl;
   size = length-replicate {A = Place} (share g) empty;
-  places = λ n. sym (all-empty (share g) (W.distance (W.fresh_book g.first (share g)) n));
+  places = λ n. sym (alike empty (share g) (W.distance (W.fresh_book g.first (share g)) n));
   numbered = tt;
   balance = omega (arith, none-held (share g));
 }

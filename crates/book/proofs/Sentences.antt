@@ -1,42 +1,38 @@
 -- The sentences of demand 3 hold of every list of calls that the book answers, from a fresh session. The invariant `Inv` ties the
 -- book to the history; each call carries it on (`inv-step`), and gives the sentences of the next call (`says`).
-use Prim.Native.Nat.{ℕ, suc, ◌+◌, ◌-◌, ◌^◌, ◌≤◌, ◌<◌, min}
+use Prim.Native.Nat.{ℕ, ◌+◌, ◌-◌, ◌^◌, ◌≤◌, ◌<◌, min}
 use mathlib.Core.Path.{◌≡◌, refl, sym, ap, ap₂, ◌∙◌, subst}
 use mathlib.Core.Bool.{Bool, true, false, not, ◌&&◌}
-use mathlib.Core.List.{List, [], ◌∷◌, ◌++◌, append_assoc}
-use mathlib.Core.Logic.{◌⊎◌, inl, inr, ⊎_elim}
+use mathlib.Core.List.{List, [], ◌∷◌, ◌++◌}
+use mathlib.Core.Logic.{⊎_elim}
 use native.Mathlib.Omega.{arith}
 use native.Mathlib.Decide.{dec_lt}
-use borrow.Author.Tests.{lt-ltb, le-ltb, lt-leb, ne_eqb, leb-true, leb-false}
+use borrow.Author.Tests.{tests, lt-ltb, le-ltb, lt-leb, ne_eqb, leb-true}
 use lib.Dec.{ltb, leb, eqb}
 use lib.ListN as ListN
 use lib.ListN.{length, get_or, set, drop, length-append, length-drop, get_or-eq_default, get_or-append}
-use lib.Seq.{sets, sets-eq, length-sets, length-take-le, take_at, get_or-set_other, get_or-append-add, get_or-drop}
-use Rattle.field.specs.Field.{pick, byte, bit, bytes_of}
+use lib.Seq.{take_at, get_or-append-add, get_or-drop}
+use Rattle.field.specs.Field.{pick, bytes_of}
 use Rattle.request_header.specs.Request.{read_pdu}
 use Rattle.request_header.specs.Request as Read
-use Rattle.response_header.specs.Response.{refusal_in, is_too_long}
+use Rattle.response_header.specs.Response.{is_too_long}
 use Rattle.task_book.specs.Record.{Record}
-use Rattle.task_book.specs.Steps as T
-use Rattle.request_header.specs.declared.Limits.{Limits}
 use Rattle.response_header.specs.declared.Response.{Response}
-use Rattle.field.proofs.Laws.{length-bytes}
 use Rattle.window.specs.Book as W
 use Rattle.window.specs.Book.{Place, empty, holds, Command, connection}
 use Rattle.ledger.specs.Book as L
-use Rattle.ledger.specs.declared.Renewal.{Renewal}
 use Rattle.book.specs.declared.Given.{Given}
 use Rattle.book.specs.declared.Opening.{Opening}
-use Rattle.book.specs.Book.{Offered, denied, at_once, numbered, offered_as, OpenConnection, with_ledger, opened_by, Connection, closed, live, Book, share, fresh_book, Outputs, outputs, no_outputs, written, Choice, Call, offer, take, logout, opening, send, acknowledge, snack, resend, Transfer, data_in, r2t, data_out, data_snack, transfer, ask, window_numbers, holder, refused, immediate, window, from_window, sent, acknowledged, run, resent, told, numbers, holding, reply_to, Step, step, conn_of, with_window, with_conn, by_window, on_open, on_connection, lending, offer_by, logged_out, logout_by, open_at, send_as, send_by, acknowledge_by, step_of_run, Asked, asked, denied_run, from, snack_by, renewal, shown, resend_by, is_due, completed, moved_by, data_out_by, data_snack_by, transfer_by, cmd_sn_of, book_step}
+use Rattle.book.specs.Book.{Offered, offered_as, OpenConnection, with_ledger, Connection, closed, live, Book, share, fresh_book, Outputs, no_outputs, written, Choice, Call, offer, take, logout, opening, send, acknowledge, snack, resend, Transfer, data_in, r2t, data_out, data_snack, transfer, ask, window_numbers, holder, refused, window, from_window, acknowledged, told, numbers, holding, reply_to, Step, step, conn_of, with_window, with_conn, by_window, on_open, on_connection, lending, offer_by, logged_out, logout_by, open_at, send_as, send_by, acknowledge_by, step_of_run, Asked, asked, denied_run, from, snack_by, renewal, shown, resend_by, is_due, completed, moved_by, data_out_by, data_snack_by, transfer_by, cmd_sn_of, book_step}
 use Rattle.book.specs.Book.{next_stat_sn, next_is, next_of}
-use Rattle.book.specs.Events.{event, Turn, turn, booked, book_run}
+use Rattle.book.specs.Events.{event, Turn, booked, book_run}
 use Rattle.book.specs.Effects.{WindowEffect, hands_out, ConnectionEffect, opens, closes, sends, acknowledges, window_effect, Past, nothing_done, and_then}
-use Rattle.book.specs.Commands.{same, hand_outs, next, distance, among_next, among_last, Latest, by, latest_offer, origin_of, held, exp_cmd_sn_of, max_cmd_sn_of, voided_since, emptied}
+use Rattle.book.specs.Commands.{same, hand_outs, next, distance, among_next, among_last, Latest, latest_offer, origin_of, held, exp_cmd_sn_of, max_cmd_sn_of, voided_since, emptied}
 use Rattle.book.specs.Statuses.{is_open_at, last_sent, acknowledged_since}
 use Rattle.book.specs.Demand.{Takes, Offers, Shows, Resends, Holds, TellsNext, NotRefused, is_numbered_pdu, Sentences, Each, Demand3}
 use Rattle.response_header.proofs.Writing.{length-header}
 use Rattle.book.proofs.Renewed.{length-renewed, renewed-other, renewed-apart, renewed-data, renewed-tag, renewed-untagged, renewed-exp, renewed-max}
-use Rattle.book.proofs.Small.{apart, share-fits, by-data-out, by-snack, completed-status, IsOffered, is_denied, is_immediate, is_numbered, offered-is, offered-number}
+use Rattle.book.proofs.Small.{share-fits, by-data-out, by-snack, completed-status, IsOffered, is_denied, is_immediate, is_numbered, offered-is}
 use Rattle.book.proofs.PastWindow.{AllNumbered, WindowInv, next-is, distance_is, held-is, is_held, window-quiet, window-keeps, window-hands, window-logs, window-fresh, count-is, exp-is, max-is, last-is, was-offered, place_in, place_of, header_in, ticket_in, place-first}
 use Rattle.book.proofs.PastConns.{LiveOk, ConnIs, ConnInv, status_in, conn-still, conn-open, conn-send, conn-ack, conn-logs, conn-fresh}
 use Rattle.book.proofs.PastNext.{NextIs, NextInv, next-still, next-open, next-send, next-ack, next-logs, next-fresh}
@@ -123,32 +119,12 @@ record Stored (q : L.LedgerBook) (r : Response) (n : ℕ) : Type 0 where
   pub room : length q.held < 32
 
 stored_is : (q : L.LedgerBook) (longest : ℕ) (due : Bool) (r : Response) (n : ℕ) → L.sending q longest due r ≡ L.stored n → Stored q r n
-unfolding L.sending
-stored_is q longest due r n e = go (eqb (refusal_in longest r) 0) due (L.is_status r) refl (L.is_full q) refl e
-  where
-    go : (x d y : Bool) → L.is_status r ≡ y → (z : Bool) → L.is_full q ≡ z
-        → pick x (pick d (pick y (pick z (L.refused 10) (L.stored q.next)) (L.not_stored q.next)) (L.refused 3)) (L.refused (refusal_in longest r))
-        ≡ L.stored n
-        → Stored q r n
-    go true true true s true z e = let k : ◌≡◌ {A = ℕ} 0 1 = cc in absurd (omega arith)
-    go true true true s false z e = record { status = s; number = cc; room = unfold L.is_full in (leb-false 32 (length q.held) (unfold L.is_full in z)) }
-    go true true false s u z e = let k : ◌≡◌ {A = ℕ} 0 1 = cc in absurd (omega arith)
-    go true false y s u z e = let k : ◌≡◌ {A = ℕ} 0 1 = cc in absurd (omega arith)
-    go false d y s u z e = let k : ◌≡◌ {A = ℕ} 0 1 = cc in absurd (omega arith)
+unfolding L.sending L.is_full
+stored_is q longest due r n e = grind (arith, tests)
 
 unstored-is : (q : L.LedgerBook) (longest : ℕ) (due : Bool) (r : Response) (n : ℕ) → L.sending q longest due r ≡ L.not_stored n → L.is_status r ≡ false
 unfolding L.sending
-unstored-is q longest due r n e = go (eqb (refusal_in longest r) 0) due (L.is_status r) refl (L.is_full q) e
-  where
-    go : (x d y : Bool) → L.is_status r ≡ y → (z : Bool)
-        → pick x (pick d (pick y (pick z (L.refused 10) (L.stored q.next)) (L.not_stored q.next)) (L.refused 3)) (L.refused (refusal_in longest r))
-        ≡ L.not_stored n
-        → L.is_status r ≡ false
-    go true true true s true e = let k : ◌≡◌ {A = ℕ} 0 1 = cc in absurd (omega arith)
-    go true true true s false e = let k : ◌≡◌ {A = ℕ} 0 1 = cc in absurd (omega arith)
-    go true true false s u e = s
-    go true false y s u e = let k : ◌≡◌ {A = ℕ} 0 1 = cc in absurd (omega arith)
-    go false d y s u e = let k : ◌≡◌ {A = ℕ} 0 1 = cc in absurd (omega arith)
+unstored-is q longest due r n e = grind arith
 
 length-for : (q : L.LedgerBook) (r : Response) (e m : ℕ) → length (L.header_for q r e m) ≡ 48
 unfolding L.header_for
@@ -200,7 +176,8 @@ module _ (g : Given) (past : Past) (b : Book) (i : Inv g past b) where
   take-good o = at (W.first_place b.window) refl
     where
       hand : (e : Command) → W.first_place b.window ≡ holds e
-          → Inv g (record { window = hands_out (W.next b.window) ∷ past.window; connections = ConnectionEffect.none ∷ past.connections }) (with_window b (W.handed_on b.window))
+          → Inv g (record { window = hands_out (W.next b.window) ∷ past.window; connections = ConnectionEffect.none ∷ past.connections })
+          (with_window b (W.handed_on b.window))
       hand e q = record {
         sized = i.sized;
         given = i.given;
@@ -281,7 +258,8 @@ module _ (g : Given) (past : Past) (b : Book) (i : Inv g past b) where
       good-le z = unfold L.is_good in (leb-true (L.place q x) (length q.held) z)
 
       go : (u : Bool) → L.is_good q x ≡ u
-          → Good g past b i (acknowledge c x) (pick u (step (acknowledged (L.place q x)) no_outputs (with_conn b c (live (with_ledger k (L.released q x))))) (step (refused 11) no_outputs b))
+          → Good g past b i (acknowledge c x) (pick u (step (acknowledged (L.place q x)) no_outputs (with_conn b c (live (with_ledger k (L.released q x)))))
+          (step (refused 11) no_outputs b))
       go true z = record {
         sized = i.sized;
         given = i.given;
@@ -325,9 +303,11 @@ module _ (g : Given) (past : Past) (b : Book) (i : Inv g past b) where
       (length-for k.ledger (completed y r) (W.exp_cmd_sn_of b.window) (W.max_cmd_sn_of b.window))
       (L.sending k.ledger k.longest (is_due y r) (completed y r)) refl))
   step-good (acknowledge c x) y =
-      by-reach (Good g past b i (acknowledge c x)) b c no_outputs (acknowledge_by b c x) (quiet g past b i) (quiet g past b i) (λ l k e. acknowledge-good c x k l e)
+      by-reach (Good g past b i (acknowledge c x)) b c no_outputs (acknowledge_by b c x) (quiet g past b i) (quiet g past b i)
+      (λ l k e. acknowledge-good c x k l e)
   step-good (snack c p) x =
-      by-reach (Good g past b i (snack c p)) b c no_outputs (λ k. snack_by b k.ledger (asked b.given.level (read_pdu k.limits p))) (quiet g past b i) (quiet g past b i)
+      by-reach (Good g past b i (snack c p)) b c no_outputs (λ k. snack_by b k.ledger (asked b.given.level (read_pdu k.limits p))) (quiet g past b i)
+      (quiet g past b i)
       (λ l k e. snack-good c p k.ledger (asked b.given.level (read_pdu k.limits p)))
   step-good (resend c n y o) x =
       by-lend (Good g past b i (resend c n y o)) b o (on_connection b c o (resend_by b n y o)) (quiet g past b i) (λ long.
@@ -341,19 +321,20 @@ module _ (g : Given) (past : Past) (b : Book) (i : Inv g past b) where
 
 sent-size : (ds : List ConnectionEffect) (c n : ℕ) (s : L.Status) → Sized ds → last_sent ds c n ≡ L.found s → length s.header ≡ 48
 unfolding Sized last_sent
-sent-size [] c n s z q = let y : ◌≡◌ {A = ℕ} 0 1 = cc in absurd (omega arith)
+sent-size [] c n s z q = absurd cc
 sent-size (closes d r ∷ ds) c n s z q = sent-size ds c n s z q
 sent-size (opens d o ∷ ds) c n s z q = go (eqb c d) q (λ x. sent-size ds c n s z x)
   where
     go : (u : Bool) → pick u L.missing (last_sent ds c n) ≡ L.found s → (last_sent ds c n ≡ L.found s → length s.header ≡ 48) → length s.header ≡ 48
-    go true q k = let y : ◌≡◌ {A = ℕ} 0 1 = cc in absurd (omega arith)
+    go true q k = absurd cc
     go false q k = k q
 sent-size (sends d m t h ∷ ds) c n s z q = go (eqb c d && same n m) q (λ x. sent-size ds c n s z.1 x)
   where
     found : {a b : L.Status} → L.found a ≡ L.found b → a ≡ b
     found p = cc
 
-    go : (u : Bool) → pick u (L.found (record { header = h; ticket = t })) (last_sent ds c n) ≡ L.found s → (last_sent ds c n ≡ L.found s → length s.header ≡ 48)
+    go : (u : Bool) → pick u (L.found (record { header = h; ticket = t })) (last_sent ds c n) ≡ L.found s
+        → (last_sent ds c n ≡ L.found s → length s.header ≡ 48)
         → length s.header ≡ 48
     go true q k = ap (λ (x : L.Status). length x.header) (sym (found q)) ∙ z.0
     go false q k = k q
@@ -364,43 +345,24 @@ later-bytes : (x o : List ℕ) (j : ℕ) → length x ≡ 48 → 48 ≤ j → ge
 later-bytes x o j k l =
     let e : length x + (j - 48) ≡ j = omega arith in
     let e' : 48 + (j - 48) ≡ j = omega arith in
-    ap (λ (n : ℕ). get_or (x ++ drop 48 o) n 0) (sym e) ∙ get_or-append-add x (drop 48 o) (j - 48) 0 ∙ get_or-drop 48 o (j - 48) 0 ∙ ap (λ (n : ℕ). get_or o n 0) e'
+    ap (λ (n : ℕ). get_or (x ++ drop 48 o) n 0) (sym e) ∙ get_or-append-add x (drop 48 o) (j - 48) 0 ∙ get_or-drop 48 o (j - 48) 0
+    ∙ ap (λ (n : ℕ). get_or o n 0) e'
 
 -- ---- the sentences
 
 -- the four answers to a numbered offer, by the three notions that tell them apart
 module _ (g : Given) (ds : List WindowEffect) (n : ℕ) where
   offers-kept : among_next g ds n ≡ true → held g ds n ≡ false → among_last (2 ^ 31) ds n ≡ false → Offers g ds n (window W.kept)
-  offers-kept a h l = record {
-    kept = (λ e. (a, h), λ e. refl);
-    duplicate = (λ e. let z : ◌≡◌ {A = ℕ} 0 1 = cc in absurd (omega arith), λ e. absurd (apart e h));
-    passed = (λ e. let z : ◌≡◌ {A = ℕ} 0 1 = cc in absurd (omega arith), λ e. absurd (apart e l));
-    beyond = (λ e. let z : ◌≡◌ {A = ℕ} 0 1 = cc in absurd (omega arith), λ e. absurd (apart a e.0));
-  }
+  offers-kept a h l = grind arith
 
   offers-duplicate : among_next g ds n ≡ true → held g ds n ≡ true → among_last (2 ^ 31) ds n ≡ false → Offers g ds n (window W.duplicate)
-  offers-duplicate a h l = record {
-    kept = (λ e. let z : ◌≡◌ {A = ℕ} 0 1 = cc in absurd (omega arith), λ e. absurd (apart h e.1));
-    duplicate = (λ e. h, λ e. refl);
-    passed = (λ e. let z : ◌≡◌ {A = ℕ} 0 1 = cc in absurd (omega arith), λ e. absurd (apart e l));
-    beyond = (λ e. let z : ◌≡◌ {A = ℕ} 0 1 = cc in absurd (omega arith), λ e. absurd (apart a e.0));
-  }
+  offers-duplicate a h l = grind arith
 
   offers-passed : among_next g ds n ≡ false → held g ds n ≡ false → among_last (2 ^ 31) ds n ≡ true → Offers g ds n (window W.passed)
-  offers-passed a h l = record {
-    kept = (λ e. let z : ◌≡◌ {A = ℕ} 0 1 = cc in absurd (omega arith), λ e. absurd (apart e.0 a));
-    duplicate = (λ e. let z : ◌≡◌ {A = ℕ} 0 1 = cc in absurd (omega arith), λ e. absurd (apart e h));
-    passed = (λ e. l, λ e. refl);
-    beyond = (λ e. let z : ◌≡◌ {A = ℕ} 0 1 = cc in absurd (omega arith), λ e. absurd (apart l e.1));
-  }
+  offers-passed a h l = grind arith
 
   offers-beyond : among_next g ds n ≡ false → held g ds n ≡ false → among_last (2 ^ 31) ds n ≡ false → Offers g ds n (window W.beyond)
-  offers-beyond a h l = record {
-    kept = (λ e. let z : ◌≡◌ {A = ℕ} 0 1 = cc in absurd (omega arith), λ e. absurd (apart e.0 a));
-    duplicate = (λ e. let z : ◌≡◌ {A = ℕ} 0 1 = cc in absurd (omega arith), λ e. absurd (apart e h));
-    passed = (λ e. let z : ◌≡◌ {A = ℕ} 0 1 = cc in absurd (omega arith), λ e. absurd (apart e l));
-    beyond = (λ e. (a, l), λ e. refl);
-  }
+  offers-beyond a h l = grind arith
 
 within : (g : Given) (ds : List WindowEffect) (w : W.Book) (n : ℕ) → WindowInv g ds w → held g ds n ≡ true → among_next g ds n ≡ true
 unfolding among_next is_held
@@ -409,7 +371,7 @@ within g ds w n i h = go (dec_lt (W.distance w n) (share g))
     go : Dec (W.distance w n < share g) → ltb (distance g ds n) (share g) ≡ true
     go (yes l) = rw (distance_is g ds w n i) (lt-ltb (W.distance w n) (share g) l)
     go (no l) =
-        absurd (apart h (held-is g ds w n i ∙ ap is_held (get_or-eq_default w.held empty {n = W.distance w n} (omega (arith, i.size)))))
+        absurd (cc (h, held-is g ds w n i ∙ ap is_held (get_or-eq_default w.held empty {n = W.distance w n} (omega (arith, i.size)))))
 
 -- of the window alone
 module _ (g : Given) (ds : List WindowEffect) (b : Book) (i : WindowInv g ds b.window) where
@@ -419,23 +381,23 @@ module _ (g : Given) (ds : List WindowEffect) (b : Book) (i : WindowInv g ds b.w
   unfolding by_window W.take_step place_of
   takes_at o false u p q = record {
     nothing = λ e. (refl, refl);
-    void = λ e. absurd (apart e p);
-    command = λ e. absurd (apart e p);
-    offered = λ e. absurd (apart e p);
+    void = λ e. absurd (cc (e, p));
+    command = λ e. absurd (cc (e, p));
+    offered = λ e. absurd (cc (e, p));
   }
   takes_at o true true p q =
       let n = next-is g ds b.window i in
       record {
-        nothing = λ e. absurd (apart p e);
+        nothing = λ e. absurd (cc (p, e));
         void = λ e s. (ap (λ (x : ℕ). window (W.void x)) (sym n), refl);
-        command = λ e s. absurd (apart q s);
+        command = λ e s. absurd (cc (q, s));
         offered = λ e l. was-offered g ds (next g ds) e l;
       }
   takes_at o true false p q =
       let n = next-is g ds b.window i in
       record {
-        nothing = λ e. absurd (apart p e);
-        void = λ e s. absurd (apart s q);
+        nothing = λ e. absurd (cc (p, e));
+        void = λ e s. absurd (cc (s, q));
         command = λ e s c t h l.
             (ap₂ (λ (x y : ℕ). window (W.command x y (origin_of ds (next g ds)))) (sym n) (ap ticket_in l), ap (λ (x : Latest). header_in x ++ drop 48 o) l);
         offered = λ e l. was-offered g ds (next g ds) e l;
@@ -457,19 +419,19 @@ module _ (g : Given) (ds : List WindowEffect) (b : Book) (i : WindowInv g ds b.w
   unfolding W.holder_at place_of
   holds_at n false u p q = record {
     free = (λ e. p, λ e. refl);
-    void = (λ e. let z : ◌≡◌ {A = ℕ} 0 1 = cc in absurd (omega arith), λ e. absurd (apart e.0 p));
-    by = λ e. absurd (apart e p);
-    offered = λ e. absurd (apart e p);
+    void = (λ e. absurd cc, λ e. absurd (cc (e.0, p)));
+    by = λ e. absurd (cc (e, p));
+    offered = λ e. absurd (cc (e, p));
   }
   holds_at n true true p q = record {
-    free = (λ e. let z : ◌≡◌ {A = ℕ} 0 1 = cc in absurd (omega arith), λ e. absurd (apart p e));
+    free = (λ e. absurd cc, λ e. absurd (cc (p, e)));
     void = (λ e. (p, q), λ e. refl);
-    by = λ e s. absurd (apart q s);
+    by = λ e s. absurd (cc (q, s));
     offered = λ e l. was-offered g ds n e l;
   }
   holds_at n true false p q = record {
-    free = (λ e. let z : ◌≡◌ {A = ℕ} 0 1 = cc in absurd (omega arith), λ e. absurd (apart p e));
-    void = (λ e. let z : ◌≡◌ {A = ℕ} 0 1 = cc in absurd (omega arith), λ e. absurd (apart e.1 q));
+    free = (λ e. absurd cc, λ e. absurd (cc (p, e)));
+    void = (λ e. absurd cc, λ e. absurd (cc (e.1, q)));
     by = λ e s c t h l. ap (λ (x : Latest). told (holding (W.held_by (ticket_in x) (origin_of ds n)))) l;
     offered = λ e l. was-offered g ds n e l;
   }
@@ -505,7 +467,8 @@ module _ (g : Given) (ds : List WindowEffect) (b : Book) (i : WindowInv g ds b.w
           let lt : min (2 ^ 31) (hand_outs ds) < 2 ^ 32 - W.distance w n = omega (arith, i.share, share-fits g) in
           passes ∙ lt-leb (2 ^ 32 - W.distance w n) (min (2 ^ 31) (hand_outs ds)) lt
 
-      at : (x : Place) → get_or w.held (W.distance w n) empty ≡ x → W.distance w n < w.share → Offers g ds n (from_window (W.offer_at x w (W.distance w n) e).answer)
+      at : (x : Place) → get_or w.held (W.distance w n) empty ≡ x → W.distance w n < w.share
+          → Offers g ds n (from_window (W.offer_at x w (W.distance w n) e).answer)
       at empty q l = offers-kept g ds n (in_window l) (unfold is_held in (held_at empty q)) (not-passed l)
       at (holds x) q l = offers-duplicate g ds n (in_window l) (unfold is_held in (held_at (holds x) q)) (not-passed l)
 
@@ -534,15 +497,17 @@ module _ (g : Given) (past : Past) (b : Book) (i : Inv g past b) where
       → Offers g past.window (cmd_sn_of p) (offer_by b c t p x).answer
   unfolding is_numbered_pdu offer_by
   offers-by c t p m (is_denied n) q = absurd (q n refl)
-  offers-by c t p m (is_immediate e) q = let z : not true ≡ true = rw e at m in let y : ◌≡◌ {A = ℕ} 0 1 = cc in absurd (omega arith)
+  offers-by c t p m (is_immediate e) q = let z : not true ≡ true = rw e at m in absurd cc
   offers-by c t p m (is_numbered e) q =
-      unfold by_window in (unfold W.book_step in (offers-at g past.window b i.window (cmd_sn_of p) (record { header = ListN.take 48 p; ticket = t; origin = connection c; void = false })))
+      unfold by_window in (unfold W.book_step in (offers-at g past.window b i.window (cmd_sn_of p)
+      (record { header = ListN.take 48 p; ticket = t; origin = connection c; void = false })))
 
   offers-for : (c t : ℕ) (p : List ℕ) (x : Choice) → is_numbered_pdu p ≡ true → NotRefused (book_step b (offer c t p) x).answer
       → Offers g past.window (cmd_sn_of p) (book_step b (offer c t p) x).answer
   unfolding book_step
   offers-for c t p x m =
-      by-reach (λ s. NotRefused s.answer → Offers g past.window (cmd_sn_of p) s.answer) b c no_outputs (λ k. offer_by b c t p (offered_as (read_pdu k.limits p)))
+      by-reach (λ s. NotRefused s.answer → Offers g past.window (cmd_sn_of p) s.answer) b c no_outputs
+      (λ k. offer_by b c t p (offered_as (read_pdu k.limits p)))
       (λ q. absurd (q 7 refl)) (λ q. absurd (q 8 refl)) (λ l k e. offers-by c t p m (offered-is k.limits p))
 
   shows-at : (y : Record) (s : L.Status) (o : Outputs) → 48 ≤ length o.header → length s.header ≡ 48
@@ -582,7 +547,8 @@ module _ (g : Given) (past : Past) (b : Book) (i : Inv g past b) where
       ks = past.connections
 
       missing : (u : Bool) → last_sent ks c n ≡ L.missing
-          → ((shown b y o (pick u L.missing (last_sent ks c n))).answer ≡ refused 12) × ((shown b y o (pick u L.missing (last_sent ks c n))).out.header ≡ o.header)
+          → ((shown b y o (pick u L.missing (last_sent ks c n))).answer ≡ refused 12) × ((shown b y o (pick u L.missing (last_sent ks c n))).out.header
+          ≡ o.header)
       missing true q = unfold shown in (refl, refl)
       missing false q = rw q (unfold shown in (refl, refl))
 
@@ -595,7 +561,7 @@ module _ (g : Given) (past : Past) (b : Book) (i : Inv g past b) where
     where
       at : (x : Connection) → conn_of b c ≡ x → ConnIs past.connections c (get_or b.conns c closed)
           → Resends g past c n y o.header (on_open (conn_of b c) b o (resend_by b n y o)).answer (on_open (conn_of b c) b o (resend_by b n y o)).out.header
-      at closed e k = absurd (apart p (subst (ConnIs past.connections c) e k))
+      at closed e k = absurd (cc (p, subst (ConnIs past.connections c) e k))
       at (live q) e k =
           let ok : LiveOk past.connections c q.ledger = subst (ConnIs past.connections c) e k in
           let lv : b.given.level ≡ 0 → ⊥ = λ z. omega (arith, ap (λ (y : Given). y.level) i.given) in
@@ -606,13 +572,13 @@ module _ (g : Given) (past : Past) (b : Book) (i : Inv g past b) where
       → TellsNext g past.connections c (next_of x)
   unfolding next_of ConnIs NextIs
   next-at c l closed shut n = record {
-    no_connection = (λ e. let z : ◌≡◌ {A = ℕ} 7 8 = cc in absurd (omega arith), λ e. absurd (omega arith));
+    no_connection = (λ e. absurd cc, λ e. absurd (omega arith));
     closed = (λ e. (l, shut), λ e. refl);
-    next = (λ e. let z : ◌≡◌ {A = ℕ} 0 1 = cc in absurd (omega arith), λ e. absurd (apart e shut));
+    next = (λ e. absurd cc, λ e. absurd (cc (e, shut)));
   }
   next-at c l (live k) ok n = record {
-    no_connection = (λ e. let z : ◌≡◌ {A = ℕ} 0 1 = cc in absurd (omega arith), λ e. absurd (omega arith));
-    closed = (λ e. let z : ◌≡◌ {A = ℕ} 0 1 = cc in absurd (omega arith), λ e. absurd (apart ok.open_now e.1));
+    no_connection = (λ e. absurd cc, λ e. absurd (omega arith));
+    closed = (λ e. absurd cc, λ e. absurd (cc (ok.open_now, e.1)));
     next = (λ e. ok.open_now, λ e. ap (λ (y : ℕ). told (next_is y)) n);
   }
 
@@ -623,8 +589,8 @@ module _ (g : Given) (past : Past) (b : Book) (i : Inv g past b) where
       far : 4 ≤ c → TellsNext g past.connections c (refused 7)
       far m = record {
         no_connection = (λ e. m, λ e. refl);
-        closed = (λ e. let z : ◌≡◌ {A = ℕ} 7 8 = cc in absurd (omega arith), λ e. absurd (omega (arith, e.0)));
-        next = (λ e. let z : ◌≡◌ {A = ℕ} 0 1 = cc in absurd (omega arith), λ e. absurd (omega (arith, i.conns.near c e)));
+        closed = (λ e. absurd cc, λ e. absurd (omega (arith, e.0)));
+        next = (λ e. absurd cc, λ e. absurd (omega (arith, i.conns.near c e)));
       }
 
       go : Dec (c < 4) → TellsNext g past.connections c (book_step b (ask (next_stat_sn c)) x).answer
@@ -639,15 +605,20 @@ module _ (g : Given) (past : Past) (b : Book) (i : Inv g past b) where
       let ws = window_effect (booked b t) ∷ past.window in
       record {
         numbered = λ n q. (subst (λ (d : WindowEffect). AllNumbered g (d ∷ past.window)) q (unfold booked in after.window.numbered)).0;
-        takes = λ o q l. subst (λ (y : Call). Takes g past.window o.header (book_step b y x).answer (book_step b y x).out.header) (sym q) (takes-for g past.window b i.window o x l);
-        short_takes = λ o q l. subst (λ (y : Call). ((book_step b y x).answer ≡ refused 1) × ((book_step b y x).out ≡ o)) (sym q) (takes-short g past.window b i.window o x l);
+        takes = λ o q l. subst (λ (y : Call). Takes g past.window o.header (book_step b y x).answer (book_step b y x).out.header) (sym q)
+            (takes-for g past.window b i.window o x l);
+        short_takes = λ o q l. subst (λ (y : Call). ((book_step b y x).answer ≡ refused 1) × ((book_step b y x).out ≡ o)) (sym q)
+            (takes-short g past.window b i.window o x l);
         offers = λ k d p q m n.
-            subst (λ (y : Call). NotRefused (book_step b y x).answer → Offers g past.window (cmd_sn_of p) (book_step b y x).answer) (sym q) (offers-for k d p x m) n;
-        balance = unfold booked in (after.window.balance ∙ ap (λ (y : ℕ). hand_outs ws + y + emptied ws) (sym (count-is g ws (book_step b t.call x).book.window after.window)));
+            subst (λ (y : Call). NotRefused (book_step b y x).answer → Offers g past.window (cmd_sn_of p) (book_step b y x).answer) (sym q)
+            (offers-for k d p x m) n;
+        balance = unfold booked in (after.window.balance ∙ ap (λ (y : ℕ). hand_outs ws + y + emptied ws)
+            (sym (count-is g ws (book_step b t.call x).book.window after.window)));
         within = λ n h. within g ws (book_step b t.call x).book.window n after.window h;
         resends = λ k n z o q p vp long.
             subst (λ (y : Call). Resends g past k n z o.header (book_step b y x).answer (book_step b y x).out.header) (sym q) (resends-for k n z o x p vp long);
-        window_numbers = λ q. subst (λ (y : Call). (book_step b y x).answer ≡ told (numbers (exp_cmd_sn_of g past.window) (max_cmd_sn_of g past.window))) (sym q) window-for;
+        window_numbers = λ q. subst (λ (y : Call). (book_step b y x).answer ≡ told (numbers (exp_cmd_sn_of g past.window) (max_cmd_sn_of g past.window)))
+            (sym q) window-for;
         next_stat_sn = λ k q. subst (λ (y : Call). TellsNext g past.connections k (book_step b y x).answer) (sym q) (next-for k x);
         holds = λ n q. subst (λ (y : Call). Holds g past.window n (book_step b y x).answer) (sym q) (holds-for g past.window b i.window n x);
       }

@@ -1,13 +1,12 @@
 -- Small laws that the others share, and what an offered PDU is by its bytes.
-use Prim.Native.Nat.{ℕ, zero, suc, ◌<◌, ◌≤◌}
-use mathlib.Core.Path.{◌≡◌, refl, sym, ap, ◌∙◌}
-use mathlib.Core.Bool.{Bool, true, false, not, ◌&&◌, ◌||◌}
+use Prim.Native.Nat.{ℕ, ◌<◌, ◌≤◌}
+use mathlib.Core.Path.{◌≡◌, refl}
+use mathlib.Core.Bool.{Bool, true, false, ◌||◌}
 use mathlib.Core.List.{List}
 use native.Mathlib.Omega.{arith}
 use borrow.Author.Tests.{eqb-true}
 use lib.Dec.{eqb}
-use lib.ListN.{get_or, replicate}
-use Rattle.field.specs.Field.{pick, be_at, byte, bit}
+use Rattle.field.specs.Field.{pick, byte, bit}
 use Rattle.request_header.specs.Request.{read_pdu, pdu_of, request_of, opcode_of}
 use Rattle.request_header.specs.Request as Read
 use Rattle.request_header.specs.Kind.{if_data_out, if_snack}
@@ -20,19 +19,10 @@ use Rattle.response_header.specs.declared.Response.TheVariants as A
 use Rattle.task_book.specs.Record.{Record}
 use Rattle.ledger.specs.Book.{is_status}
 use Rattle.request_header.specs.declared.Limits.{Limits}
-use Rattle.request_header.specs.declared.Pdu.{Pdu}
 use Rattle.request_header.proofs.Reading.{got-all}
 use Rattle.request_header.proofs.FieldRules.{and-true}
 use Rattle.book.specs.declared.Given.{Given}
-use Rattle.book.specs.Book.{share, Connection, closed, Offered, denied, at_once, numbered, offered_as, is_offered, cmd_sn_of, Step, completed}
-
-pub apart : {t : Bool} → t ≡ true → t ≡ false → ⊥
-apart p q = let z : ◌≡◌ {A = ℕ} 0 1 = cc in omega arith
-
-pub all_closed : (n j : ℕ) → get_or (replicate n closed) j closed ≡ closed
-all_closed zero j = refl
-all_closed (suc n) zero = refl
-all_closed (suc n) (suc j) = all_closed n j
+use Rattle.book.specs.Book.{share, Offered, denied, at_once, numbered, offered_as, is_offered, cmd_sn_of, Step, completed}
 
 -- a share has a place, and no more than there are slots
 pub share-some : (g : Given) → 0 < share g
@@ -81,8 +71,8 @@ pub offered-number : (m : Limits) (s : List ℕ) (n : ℕ) → offered_as (read_
 offered-number m s n e = go (offered-is m s) e
   where
     go : {x : Offered} → IsOffered s x → x ≡ numbered n → n ≡ cmd_sn_of s
-    go (is_denied k) q = let z : ◌≡◌ {A = ℕ} 0 1 = cc in absurd (omega arith)
-    go (is_immediate i) q = let z : ◌≡◌ {A = ℕ} 0 1 = cc in absurd (omega arith)
+    go (is_denied k) q = absurd cc
+    go (is_immediate i) q = absurd cc
     go (is_numbered i) q = cc
 
 -- a property of what is said of one kind of request, and of what is said of all others

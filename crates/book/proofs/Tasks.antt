@@ -1,7 +1,7 @@
 -- The data sentences of a task hold of every list of calls that the book answers: each transfer moves the record as its rules say, and a SCSI Response that
 -- is sent bears the ExpDataSN of the record.
-use Prim.Native.Nat.{ℕ, ◌+◌, ◌-◌, ◌/◌, ◌%◌, ◌^◌, ◌<◌, ◌≤◌}
-use mathlib.Core.Path.{◌≡◌, refl, sym, ap, ap₂, ◌∙◌, subst}
+use Prim.Native.Nat.{ℕ, ◌/◌, ◌%◌, ◌^◌, ◌<◌}
+use mathlib.Core.Path.{◌≡◌, refl, sym, ap, ◌∙◌, subst}
 use mathlib.Core.Bool.{Bool, true, false}
 use mathlib.Core.List.{List, [], ◌∷◌, ◌++◌}
 use native.Mathlib.Omega.{arith}
@@ -14,13 +14,11 @@ use Rattle.request_header.specs.Request as Read
 use Rattle.request_header.specs.Kind.{if_data_out, if_snack}
 use Rattle.request_header.specs.declared.DataOut.{DataOut}
 use Rattle.request_header.specs.declared.Snack.{Snack}
-use Rattle.request_header.specs.declared.Pdu.{Pdu}
 use Rattle.request_header.specs.declared.Request.TheVariants as Q
 use Rattle.request_header.proofs.Reading.{got-all}
 use Rattle.response_header.specs.Response.{is_too_long, header_bytes, kind_fields}
 use Rattle.response_header.specs.declared.Numbers.{Numbers}
 use Rattle.response_header.specs.declared.ScsiResponse.{ScsiResponse}
-use Rattle.response_header.specs.declared.Response.{Response}
 use Rattle.response_header.specs.declared.Response.TheVariants as R
 use Rattle.task_book.specs.declared.TaskGiven.{TaskGiven}
 use Rattle.task_book.specs.Record.{Record, making, made}
@@ -32,8 +30,8 @@ use Rattle.task_book.proofs.Sentences.{data-sentences}
 use Rattle.window.specs.Book as W
 use Rattle.ledger.specs.Book as L
 use Rattle.book.specs.declared.Given.{Given}
-use Rattle.book.specs.Book.{OpenConnection, Book, Outputs, outputs, no_outputs, written, Transfer, data_in, r2t, data_out, data_snack, Choice, Call, send, transfer, Answer, refused, sent, moved, Step, step, fresh_book, from_task, moved_by, data_out_by, data_snack_by, transfer_by, completed, is_due, with_exp_data_sn, send_as, send_by, book_step}
-use Rattle.book.specs.Events.{Event, event, Turn, booked, book_run}
+use Rattle.book.specs.Book.{OpenConnection, Book, Outputs, no_outputs, written, Transfer, data_in, r2t, data_out, data_snack, Choice, Call, send, transfer, refused, sent, moved, Step, step, fresh_book, from_task, moved_by, data_out_by, data_snack_by, transfer_by, completed, is_due, with_exp_data_sn, send_as, send_by, book_step}
+use Rattle.book.specs.Events.{Event, Turn, booked, book_run}
 use Rattle.book.specs.Effects.{Past, nothing_done, and_then}
 use Rattle.book.specs.Tasks.{data_call_of, Bears, OnTask, done, other, moves, responds}
 use Rattle.book.proofs.Sentences.{Inv, inv-fresh, inv-step, by-reach, by-lend}
@@ -46,18 +44,10 @@ record Moved (s : T.Step) (a : T.Answer) (x' : Record) : Type 0 where
   pub after : s.after ≡ x'
 
 unmoved : {n : ℕ} {a : T.Answer} {x : Record} → refused n ≡ moved a x → ⊥
-unmoved e = let z : ◌≡◌ {A = ℕ} 0 1 = cc in omega arith
+unmoved e = cc
 
 moved-is : (s : T.Step) (a : T.Answer) (x' : Record) → from_task s.answer s.after ≡ moved a x' → Moved s a x'
-moved-is s a x' e = go s.answer refl e
-  where
-    go : (y : T.Answer) → s.answer ≡ y → from_task y s.after ≡ moved a x' → Moved s a x'
-    go (T.refused n) q e = absurd (unmoved e)
-    go (T.data_in h) q e = record { answer = cc; after = cc }
-    go (T.r2t h) q e = record { answer = cc; after = cc }
-    go (T.came f n k) q e = record { answer = cc; after = cc }
-    go (T.run f n) q e = record { answer = cc; after = cc }
-    go (T.acknowledged n) q e = record { answer = cc; after = cc }
+moved-is s a x' e = grind arith
 
 -- what is said of a Data-Out, and of a SNACK, is said of its fields in the PDU, or it is what is said of another kind
 of-data-out : (P : Step → Type 0) (f : DataOut → Step) (d : Step) (s : List ℕ) (op : ℕ) → P (f (data_out_of s)) → P d → P (if_data_out f d (request_of op s))
@@ -174,7 +164,7 @@ unfolding header_bytes kind_fields bytes_of
 bears r n rest = refl
 
 unsent : {m n : ℕ} → refused m ≡ sent n → ⊥
-unsent e = let z : ◌≡◌ {A = ℕ} 0 1 = cc in omega arith
+unsent e = cc
 
 send-bears : (b : Book) (c t : ℕ) (r : ScsiResponse) (x : Record) (o : Outputs) (q : OpenConnection) (n : ℕ)
     → (send_by b c t (R.ScsiResponse r) x o q).answer ≡ sent n
@@ -217,7 +207,7 @@ cut : {e f : Event} {es fs : List Event} → e ∷ es ≡ f ∷ fs → (e ≡ f)
 cut q = (cc, cc)
 
 empty : {e : Event} {es : List Event} → e ∷ es ≡ [] → ⊥
-empty q = let z : ◌≡◌ {A = ℕ} 0 1 = cc in omega arith
+empty q = cc
 
 runs : (g : Given) {x y : Record} {es : List Event} {ts : List H.Event} → OnTask g.level x es ts y → Bounded x → (past : Past) (b : Book)
     → Inv g past b → (us : List Turn) → es ≡ book_run b us → H.Ran x ts y

@@ -2,7 +2,7 @@
 -- Commands and Statuses: they are read off the list, and no book is named. The theorem that gives it, for every list of calls of
 -- the functions themselves, is `demand3` in session/proofs/Tied; that "every answer is that of document 01's book" is `booked`
 -- there.
-use Rattle.std.specs.Prelude.{ℕ, ◌+◌, ◌-◌, ◌%◌, ◌^◌, ◌<◌, ◌≤◌, ◌≡◌, Bool, true, false, not, List, [], ◌∷◌, ◌++◌, ◌↔◌, ◌⊎◌, length, get_or, drop}
+use Rattle.std.specs.Prelude.{ℕ, ◌+◌, ◌%◌, ◌^◌, ◌<◌, ◌≤◌, ◌≡◌, Bool, true, false, not, List, [], ◌∷◌, ◌++◌, ◌↔◌, ◌⊎◌, length, get_or, drop}
 use Rattle.field.specs.Field.{byte, bit, bytes_of}
 use Rattle.store.specs.Slot.{header_size}
 use Rattle.window.specs.Book as W

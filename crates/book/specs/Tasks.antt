@@ -9,7 +9,7 @@ use Rattle.response_header.specs.declared.Response.TheVariants as R
 use Rattle.task_book.specs.Record.{Record}
 use Rattle.task_book.specs.Steps as T
 use Rattle.task_book.specs.History as H
-use Rattle.book.specs.Book.{Outputs, Transfer, data_in, r2t, data_out, data_snack, send, transfer, Answer, sent, moved}
+use Rattle.book.specs.Book.{Outputs, Transfer, data_in, r2t, data_out, data_snack, send, transfer, sent, moved}
 use Rattle.book.specs.Events.{Event, event}
 
 -- What a transfer is to the record: of a Data-Out and a SNACK, by the fields of the PDU. v is the session's ErrorRecoveryLevel.

@@ -10,7 +10,7 @@ ghost use Rattle.window.specs.Book as W;
 ghost use Rattle.answer_words.specs.Answer.{answer_words, packed};
 
 use answer_words::{
-    BEYOND, COMMAND, DONE, DUPLICATE, KEPT, NOTHING, PASSED, VOID, origin_word, pack, pack_refused,
+    BEYOND, COMMAND, DONE, DUPLICATE, KEPT, NOTHING, PASSED, VOID, origin_word, pack, pack_value,
     refused,
 };
 use ledger::Run;
@@ -62,8 +62,5 @@ pub fn run(a: Result<Run, Refusal>) -> [u32; 4]
 pub fn resent(a: Result<u32, Refusal>) -> u64
     ensures { packed result ≡ answer_words (resend_answer a) }
 {
-    match a {
-        Ok(t) => pack(DONE, t),
-        Err(f) => pack_refused(f),
-    }
+    pack_value(DONE, a)
 }

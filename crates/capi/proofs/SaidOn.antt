@@ -12,9 +12,9 @@ use Rattle.call_words.specs.Session.{session_words, nothing}
 use Rattle.call_words.proofs.Unchanged.{still}
 use Rattle.capi.specs.Transfer.{SaidOn}
 
-pub said-on : {c : ℕ} {d : Transfer} {n m : List ℕ} {k : Commands} {ss : Statuses} {t t' : TaskWords} {w : List ℕ} {o : Outputs}
+pub said_on : {c : ℕ} {d : Transfer} {n m : List ℕ} {k : Commands} {ss : Statuses} {t t' : TaskWords} {w : List ℕ} {o : Outputs}
     → Moves c d (state (session_of n m) k ss) t w o t' → SaidOn c d (session_words n m k ss) t w o t'
-said-on {c} {d} {n} {m} {k} {ss} {t} {t'} {w} {o} x = record {
+said_on {c} {d} {n} {m} {k} {ss} {t} {t'} {w} {o} x = record {
   said = record {
     answer = x.answer;
     did = x.did;

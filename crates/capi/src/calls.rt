@@ -1,5 +1,6 @@
 // The session's calls for C. A session is its numbers and maps, and the arrays of headers and tickets; each call is lent what it
-// touches. An answer of one value at most goes back in a register, another in four words.
+// touches. An answer of one value at most goes back in a register, another in four words. A contract stands here as in the crate below, so that
+// what C links is read with its contract at the export.
 ghost use Rattle.std.specs.Prelude.{List, ℕ};
 ghost use Rattle.window.specs.Agree.{Commands, commands};
 ghost use Rattle.ledger.specs.Agree.{Statuses, statuses_in};

@@ -1,5 +1,5 @@
 // Drawbevel for C. Each function takes numbers, slices (a pointer and a length) and arrays of fixed size; include/drawbevel.h
-// declares them and has the structs that these arrays are.
+// declares them and has the structs that these arrays are; lengths are written out here, as they are there.
 #![tactic(auto)]
 
 pub mod calls;

@@ -1,5 +1,5 @@
 // The login phase for C. A login is eight numbers, its settled values and which keys came; each call is lent these, the gather area and
-// the text output.
+// the text output. Contracts: as in `calls`.
 ghost use Rattle.login_book.specs.Login.{login_step};
 ghost use Rattle.std.specs.Prelude.{◌≡◌};
 ghost use Rattle.login_types.specs.Agree.{book_of, fresh_login, IsFresh};

@@ -1,4 +1,4 @@
-// The header reader and writer for C.
+// The header reader and writer for C. Contracts: as in `calls`.
 ghost use Rattle.std.specs.Prelude.{◌≡◌};
 ghost use Rattle.request_header.specs.Request.{limits, read_pdu};
 ghost use Rattle.response_writer.specs.Writing.{Outcome};

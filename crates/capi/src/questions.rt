@@ -1,4 +1,4 @@
-// What C may ask of a session, which changes nothing, and of the first bytes of a PDU.
+// What C may ask of a session, which changes nothing, and of the first bytes of a PDU. Contracts: as in `calls`.
 ghost use Rattle.std.specs.Prelude.{List, ℕ};
 ghost use Rattle.window.specs.Agree.{Commands, commands};
 ghost use Rattle.ledger.specs.Agree.{Statuses};

@@ -1,5 +1,7 @@
 // The calls that move data, for C, and the making of a task's record. A record is its numbers and the two arrays of its open R2Ts; the session
-// stays as it is.
+// stays as it is. Contracts: as in `calls`.
+#![tactic(auto, using(crate::proofs::SaidOn::said_on))]
+
 ghost use Rattle.std.specs.Prelude.{List, ℕ};
 ghost use Rattle.window.specs.Agree.{Commands};
 ghost use Rattle.ledger.specs.Agree.{Statuses};

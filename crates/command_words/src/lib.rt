@@ -11,13 +11,14 @@ use answer_words::IMMEDIATE;
 use session_changes::store_window;
 use session_commands::Offered;
 use session_words::load;
+use window::{WINDOW_BYTES, WINDOW_SLOTS};
 
 // Offers a whole PDU with its ticket on a connection.
 pub fn offer(
     n: &mut [u32; 15],
     m: &mut [u64; 6],
-    headers: &mut [u8; 3072],
-    tickets: &mut [u32; 64],
+    headers: &mut [u8; WINDOW_BYTES],
+    tickets: &mut [u32; WINDOW_SLOTS],
     conn: u32,
     ticket: u32,
     pdu: &[u8],
@@ -45,8 +46,8 @@ pub fn offer(
 pub fn take(
     n: &mut [u32; 15],
     m: &mut [u64; 6],
-    headers: &[u8; 3072],
-    tickets: &[u32; 64],
+    headers: &[u8; WINDOW_BYTES],
+    tickets: &[u32; WINDOW_SLOTS],
     out: &mut [u8],
     answer: &mut [u32; 4],
 )

@@ -5,7 +5,8 @@ ghost use Rattle.std.specs.Prelude.{◌≡◌};
 ghost use Rattle.response_words.specs.ResponseWords.{nop_in_of, data_in_of, r2t_of, reject_of};
 
 use response_header::{DataIn, NopIn, R2t, Reject, Response};
-use response_words::{Unfit, WIDE_8, WIDE_32};
+use response_words::{Unfit, WIDE_32};
+use words::WIDE_8;
 
 pub fn nop_in(w: &[u64; 10]) -> Result<Response, Unfit>
     ensures { result ≡ nop_in_of w.now }

@@ -11,7 +11,7 @@ ghost use Rattle.task_words.specs.TaskWords.{task_words};
 ghost use Rattle.transfer_words.specs.Moves.{Moves};
 
 use session_words::load;
-use task::DataOutAnswer;
+use task::{DataOutAnswer, OPEN_PLACES};
 use task_changes::store_data_out;
 
 // Takes a Data-Out that came.
@@ -22,8 +22,8 @@ pub fn data_out(
     pdu: &[u8],
     task: &mut [u32; 12],
     wide: &mut [u64; 4],
-    tags: &[u32; 8],
-    ends: &[u64; 8],
+    tags: &[u32; OPEN_PLACES],
+    ends: &[u64; OPEN_PLACES],
     answer: &mut [u32; 4],
 )
     ensures { (k : Commands) (ss : Statuses)

@@ -70,7 +70,7 @@ pub fn put_four(h: &mut [u8], at: usize, v: u32)
     place::<4>(h, at, v.to_be_bytes());
 }
 
-// A number of eight bytes from its two halves.
+// A number of eight bytes from its two halves. By arithmetic, as in `two` and `six_two`: `from_be_bytes` would first need the bytes of the halves.
 pub fn pair(a: u32, b: u32) -> u64
     ensures { bytes_of 8 result ≡ bytes_of 4 a ++ bytes_of 4 b }
 {
@@ -88,7 +88,7 @@ pub fn two(a: u16, b: u16) -> u32
 pub fn four(a: u8, b: u8, c: u8, d: u8) -> u32
     ensures { bytes_of 4 result ≡ bytes_of 1 a ++ (bytes_of 1 b ++ (bytes_of 1 c ++ bytes_of 1 d)) }
 {
-    a as u32 * 0x100_0000 + b as u32 * 0x1_0000 + c as u32 * 0x100 + d as u32
+    u32::from_be_bytes([a, b, c, d])
 }
 
 // The low three bytes of a number, after a zero byte.

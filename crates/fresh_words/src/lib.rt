@@ -7,17 +7,19 @@ ghost use Rattle.call_words.specs.Given.{given_of};
 ghost use Rattle.call_words.specs.Session.{session_words, FreshWords};
 
 use book::{Given, Opening};
+use ledger::{LEDGER_BYTES, LEDGER_SLOTS};
 use session::FreshSession;
 use session_kept::store;
+use window::{WINDOW_BYTES, WINDOW_SLOTS};
 
 // A fresh session: its first command number, connection 0's first StatSN, the ErrorRecoveryLevel.
 pub fn fresh(
     n: &mut [u32; 15],
     m: &mut [u64; 6],
-    headers: &mut [u8; 3072],
-    tickets: &mut [u32; 64],
-    statuses: &mut [u8; 6144],
-    status_tickets: &mut [u32; 128],
+    headers: &mut [u8; WINDOW_BYTES],
+    tickets: &mut [u32; WINDOW_SLOTS],
+    statuses: &mut [u8; LEDGER_BYTES],
+    status_tickets: &mut [u32; LEDGER_SLOTS],
     first: u32,
     stat_sn: u32,
     level: u8,

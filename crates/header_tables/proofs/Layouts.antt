@@ -1,8 +1,8 @@
 -- The tables of the fifteen kinds are what the contracts' definitions say: of each response written, and of each request read.
 use mathlib.Core.Path.{◌≡◌, refl, sym, ap, ◌∙◌, subst}
-use mathlib.Core.Bool.{Bool, true, false, ◌&&◌, ◌||◌}
+use mathlib.Core.Bool.{Bool, true, false, ◌||◌, and-true, or-false, and-eq-true_iff}
 use mathlib.Core.List.{List, [], ◌++◌}
-use Prim.Native.Nat.{ℕ, zero, suc, ◌+◌, ◌*◌, ◌/◌, ◌%◌, ◌^◌, ◌<◌, ◌≤◌}
+use Prim.Native.Nat.{ℕ, zero, suc, ◌+◌, ◌*◌, ◌/◌, ◌%◌, ◌<◌, ◌≤◌}
 use mathlib.Core.Logic.{◌⊎◌, inl, inr, ⊎_elim}
 use native.Mathlib.Nat.{zero-add, add-zero}
 use native.Mathlib.Omega.{arith}
@@ -106,10 +106,6 @@ unrefused max r e =
     let u = refusal-zero (is_too_long max (data_length_in r)) (fields_fit r) e in
     (ltb-false 0xffffff (data_length_in r) (neither (ltb 0xffffff (data_length_in r)) (ltb max (data_length_in r)) u.0), u.1)
 
-ands : (a b : Bool) → (a && b) ≡ true → (a ≡ true) × (b ≡ true)
-ands true b e = (refl, e)
-ands false b e = let z : ◌≡◌ {A = ℕ} 0 1 = cc in absurd (omega arith)
-
 bit-lt : (b : Bool) → bit_of b < 2
 bit-lt true = lit< tt
 bit-lt false = lit< tt
@@ -122,9 +118,9 @@ response-fits max (R.ScsiResponse r) n e f g = (omega arith, (omega (arith, bit-
 response-fits max (R.TaskManagementResponse r) n e f g = omega arith
 response-fits max (R.LoginResponse r) n e f g =
     let u = unrefused max (R.LoginResponse r) e in
-    let a = ands _ (r.transit || eqb r.nsg 0) u.1 in
-    let b = ands _ (ltb r.isid 0x1_0000_0000_0000) a.0 in
-    let c = ands (ltb r.csg 4) (ltb r.nsg 4) b.0 in
+    let a = (and-eq-true_iff _ (r.transit || eqb r.nsg 0)).0 u.1 in
+    let b = (and-eq-true_iff _ (ltb r.isid 0x1_0000_0000_0000)).0 a.0 in
+    let c = (and-eq-true_iff (ltb r.csg 4) (ltb r.nsg 4)).0 b.0 in
     let isid = ltb-true r.isid 0x1_0000_0000_0000 b.1 in
     (omega arith, (omega (arith, bit-lt r.transit, ltb-true r.csg 4 c.0, ltb-true r.nsg 4 c.1), omega (arith, u.0)))
 response-fits max (R.DataIn r) n e f g =
@@ -160,14 +156,6 @@ bit_below (suc (suc n)) h = absurd (omega arith)
 bit-back : (n : ℕ) → bit_of (eqb (n % 2) 1) ≡ n % 2
 bit-back n = bit_below (n % 2) (omega arith)
 
-and-true : (b : Bool) → (b && true) ≡ b
-and-true true = refl
-and-true false = refl
-
-or-false : (b : Bool) → (b || false) ≡ b
-or-false true = refl
-or-false false = refl
-
 -- what the table of opcode op reads is what the PDU shows
 abbrev Read : List ℕ → ℕ → Type 0
 Read s op =
@@ -179,13 +167,13 @@ module _ (s : List ℕ) (h : (i : ℕ) → get_or s i 0 < 256) where
   top : (op : ℕ) → eqb op 0x01 ≡ false → eqb op 0x03 ≡ false → eqb op 0x05 ≡ false → shared_ok op s ≡ true → byte s 1 / 128 ≡ 1
   unfolding shared_ok
   top op a b c e =
-      let t = ands (bit (byte s 1) 128) _ (simp (a, b, c, or-false) at e) in
+      let t = (and-eq-true_iff (bit (byte s 1) 128) _).0 (simp (a, b, c, or-false) at e) in
       omega (arith, h 1, eqb-true (byte s 1 / 128 % 2) 1 t.0)
 
   no-ahs : (op : ℕ) → eqb op 0x01 ≡ false → shared_ok op s ≡ true → byte s 4 ≡ 0
   unfolding shared_ok
   no-ahs op a e =
-      let t = ands (((bit (byte s 1) 128 || eqb op 0x01) || eqb op 0x03) || eqb op 0x05) (eqb (byte s 4) 0 || eqb op 0x01) e in
+      let t = (and-eq-true_iff (((bit (byte s 1) 128 || eqb op 0x01) || eqb op 0x03) || eqb op 0x05) (eqb (byte s 4) 0 || eqb op 0x01)).0 e in
       eqb-true (byte s 4) 0 (rw (a, or-false) at t.1)
 
   nop-out-read : Read s 0x00

@@ -1,7 +1,7 @@
 // Hex digits, read into bytes.
 ghost use Rattle.std.specs.Prelude.{◌≤◌, ◌<◌, length, IfSome};
 
-// The value of a hex digit.
+// The value of a hex digit, in lower case alone, which neither to_digit nor `text_number` is.
 fn digit(b: u8) -> Option<u8>
     ensures { IfSome result (λ d. d < 16) }
 {
@@ -12,7 +12,8 @@ fn digit(b: u8) -> Option<u8>
     }
 }
 
-// The bytes that the text's hex digits are, into out, up to the first other byte; how many there are.
+// The bytes that the text's hex digits are, into out, up to the first other byte; how many there are. Counted by hand, since the
+// count is the answer: zipped with out it would be counted too, and a proof would have to say that it fits.
 pub fn unhex(text: &[u8], out: &mut [u8]) -> usize
     ensures { result ≤ length out.new }
 {

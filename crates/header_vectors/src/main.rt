@@ -52,7 +52,7 @@ fn read_first<W: Write>(to: &mut W, buffer: &[u8], n: usize) -> io::Result<()> {
             show::pdu(to, p)?;
             ends(to, request_pdu::data_of(pdu, p))
         }
-        Err(f) => show::refused(to, f),
+        Err(f) => writeln!(to, "{f}"),
     }
 }
 

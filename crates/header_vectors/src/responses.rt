@@ -1,5 +1,4 @@
 // Responses at each rule's boundary, written into a lent buffer of 52 bytes 0xee.
-use crate::show::refused;
 use response_header::{
     DataIn, LoginResponse, LogoutResponse, MAX_DATA, NopIn, Numbers, R2t, Reject, Response,
     ScsiResponse, TaskManagementResponse,
@@ -31,7 +30,7 @@ fn write_first<W: Write>(
     };
     match response_writer::write(&mut buffer[..size], r, numbers, MAX_DATA) {
         Ok(()) => writeln!(to, "written"),
-        Err(f) => refused(to, f),
+        Err(f) => writeln!(to, "{f}"),
     }
 }
 

@@ -1,5 +1,4 @@
 // A read PDU as one line: its kind and its fields.
-use refusal::{Refusal, number_of};
 use request_header::{
     DataOut, Login, Logout, NopOut, Pdu, Request, ScsiCommand, Snack, TaskManagement,
 };
@@ -111,8 +110,4 @@ pub fn pdu<W: Write>(to: &mut W, p: Pdu) -> io::Result<()> {
     common(to, p)?;
     own(to, p.request)?;
     writeln!(to, " data={}+{}", p.data_start, p.data_segment_length)
-}
-
-pub fn refused<W: Write>(to: &mut W, f: Refusal) -> io::Result<()> {
-    writeln!(to, "refused {}", number_of(f))
 }

@@ -1,48 +1,39 @@
--- What is known after some candidates were compared: the name's key is none of them.
-use mathlib.Core.Path.{◌≡◌, refl, sym, ◌∙◌, subst}
+-- A known name's key is the first of its candidates or the second, and a name without candidates isn't known.
+use mathlib.Core.Path.{◌≡◌, refl, sym, ap, ◌∙◌, subst}
 use mathlib.Core.Bool.{Bool, true, false}
-use mathlib.Core.List.{List, [], ◌∷◌}
-use Prim.Native.Nat.{ℕ, zero, suc, ◌+◌, ◌<◌, ◌≤◌}
+use mathlib.Core.List.{List, []}
+use Prim.Native.Nat.{ℕ, ◌<◌}
 use native.Mathlib.Omega.{arith}
 use lib.ListN.{get_or}
-use lib.Dec.{eqb}
-use borrow.Author.Tests.{eqb-true, eqb-false}
+use Rattle.std.specs.Prelude.{Option, Some, None, MatchOption}
+use Rattle.std.specs.Bool.{then_some}
 use Rattle.text.specs.Text.{has, same}
-use Rattle.key_table.specs.Table.{name_at, key_of}
-use Rattle.key_table.proofs.Tables.{unknown}
+use Rattle.text.proofs.Laws.{false-true}
+use Rattle.key_table.specs.Table.{name_at, key_of, place_of_key, place_of_found}
+use Rattle.key_table.specs.declared.table.Key.{Key}
+use Rattle.key_table.proofs.Tables.{unknown, place-few}
 use Rattle.key_names.specs.Candidates.{candidates_of}
-use Rattle.key_names.proofs.Laws.{found, there, missed}
-
--- the key of a known name is none of its first i candidates
-abbrev pub NoneOf : List ℕ → ℕ → Type 0
-NoneOf n i = (j : ℕ) → j < i → key_of n < 28 → key_of n ≡ get_or (candidates_of n) j 28 → ⊥
-
-pub none_yet : (n : List ℕ) → NoneOf n 0
-none_yet n j h = absurd (omega (arith, h))
-
--- the two of the code
-pub at-two : (n : List ℕ) (l : List ℕ) (i d : ℕ) → l ≡ get_or (candidates_of n) 0 28 ∷ get_or (candidates_of n) 1 28 ∷ []
-    → i < 2 → get_or l i d ≡ get_or (candidates_of n) i 28
-at-two n l zero d e h = rw e refl
-at-two n l (suc zero) d e h = rw e refl
-at-two n l (suc (suc i)) d e h = absurd (omega (arith, h))
+use Rattle.key_names.proofs.Laws.{found, there, hit, missed, known-candidate}
+use Rattle.key_lookup.specs.Lookup.{AreFirstTwo}
 
 module _ (n : List ℕ) where
-  step-go : (i j : ℕ) → NoneOf n i → same n (name_at (get_or (candidates_of n) i 28)) ≡ false → j < i + 1 → (b : Bool) → eqb j i ≡ b
-      → key_of n < 28 → key_of n ≡ get_or (candidates_of n) j 28 → ⊥
-  step-go i j m miss h true e p a = missed n _ miss p (a ∙ rw (eqb-true j i e) refl)
-  step-go i j m miss h false e p a = m j (let z : j ≡ i → ⊥ = eqb-false j i e in omega (arith, z, h)) p a
+  pub none_there : candidates_of n ≡ [] → 28 ≡ key_of n
+  unfolding has
+  none_there e = unknown n (λ p. false-true (sym (ap (has (key_of n)) e) ∙ known-candidate n p))
 
-  pub one_more : (i : ℕ) → NoneOf n i → same n (name_at (get_or (candidates_of n) i 28)) ≡ false → NoneOf n (i + 1)
-  one_more i m miss j h = step-go i j m miss h (eqb j i) refl
+  pub among : (k : Key) (i : ℕ) → place_of_key k ≡ get_or (candidates_of n) i 28 → has (place_of_key k) (candidates_of n) ≡ true
+  among k i e = subst (λ (x : ℕ). has x (candidates_of n) ≡ true) (sym e) (there (candidates_of n) i (λ z. omega (arith, e, z, place-few k)))
 
-  pub no_more : (i : ℕ) → NoneOf n i → i < 2 → get_or (candidates_of n) i 28 ≡ 28 → 28 ≡ key_of n
-  no_more zero m h e = unknown n (λ p. found n p (λ a. omega (arith, a, e, p)) (λ f a. omega (arith, f, e)))
-  no_more (suc zero) m h e = unknown n (λ p. found n p (λ a. m 0 (omega arith) p a) (λ f a. omega (arith, a, e, p)))
-  no_more (suc (suc i)) m h e = absurd (omega (arith, h))
+  -- The second is left, or none.
+  module _ (f : Key) (miss : same n (name_at (place_of_key f)) ≡ false) where
+    left : (s : Option Key) → AreFirstTwo (candidates_of n) (f, s) → key_of n < 28 → key_of n ≡ place_of_found s
+    left s t p = found n p (λ e. absurd (missed n (place_of_key f) miss p (e ∙ sym t.first))) (λ b e. e ∙ sym t.second)
 
-  pub none_left : (i : ℕ) → NoneOf n i → 2 ≤ i → 28 ≡ key_of n
-  none_left i m h = unknown n (λ p. found n p (λ a. m 0 (omega (arith, h)) p a) (λ f a. m 1 (omega (arith, h)) p a))
+    go : (k : Key) (b : Bool) → same n (name_at (place_of_key k)) ≡ b → AreFirstTwo (candidates_of n) (f, Some k) → place_of_found (then_some b k) ≡ key_of n
+    go k true e t = hit n (place_of_key k) (among k 1 t.second) e
+    go k false e t = unknown n (λ p. missed n (place_of_key k) e p (left (Some k) t p))
 
-  pub among : (i k : ℕ) → k ≡ get_or (candidates_of n) i 28 → (k ≡ 28 → ⊥) → has k (candidates_of n) ≡ true
-  among i k e h = subst (λ (x : ℕ). has x (candidates_of n) ≡ true) (sym e) (there (candidates_of n) i (λ z. h (e ∙ z)))
+    pub last : (s r : Option Key) → AreFirstTwo (candidates_of n) (f, s) → MatchOption s (r ≡ None) (λ k. r ≡ then_some (same n (name_at (place_of_key k))) k)
+        → place_of_found r ≡ key_of n
+    last None r t e = rw e (unknown n (λ p. omega (arith, left None t p, p)))
+    last (Some k) r t e = rw e (go k (same n (name_at (place_of_key k))) refl t)

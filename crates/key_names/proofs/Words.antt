@@ -20,7 +20,7 @@ use Rattle.key_names.specs.declared.KnownName.{KnownName}
 use Rattle.key_names.proofs.Laws.{lawful, below-known}
 
 -- A number of eight bytes is that of its halves.
-pub halves : (s : List ℕ) (start : ℕ) → be_at s start 8 ≡ be_at s start 4 * 0x100000000 + be_at s (start + 4) 4
+pub halves : (s : List ℕ) (start : ℕ) → be_at s start 4 * 0x100000000 + be_at s (start + 4) 4 ≡ be_at s start 8
 unfolding be_at
 halves s start =
     let same_byte : (i : ℕ) → get_or s (start + 4 + i) 0 ≡ get_or s (start + (4 + i)) 0 = λ i. ap (λ (j : ℕ). get_or s j 0) (add_assoc start 4 i) in
@@ -49,8 +49,8 @@ module _ (s t : List ℕ) (p : (i : ℕ) → get_or s i 0 < 256) (q : (i : ℕ) 
 -- The first eight bytes, the middle and the last eight are all bytes of a name of 8 to 24.
 module _ (s t : List ℕ) (p : (i : ℕ) → get_or s i 0 < 256) (q : (i : ℕ) → get_or t i 0 < 256) (l : length s ≡ length t)
     (least : 8 ≤ length s) (most : length s ≤ 24) where
-  where-go : be_at s 0 8 ≡ be_at t 0 8 → be_at s (middle_at (length s)) 8 ≡ be_at t (middle_at (length s)) 8 → be_at s (length s - 8) 8 ≡ be_at t (length s - 8) 8
-      → (i : ℕ) → i < length s → (a b : Bool) → ltb i 8 ≡ a → ltb i (length s - 8) ≡ b → get_or s i 0 ≡ get_or t i 0
+  where-go : be_at s 0 8 ≡ be_at t 0 8 → be_at s (middle_at (length s)) 8 ≡ be_at t (middle_at (length s)) 8
+      → be_at s (length s - 8) 8 ≡ be_at t (length s - 8) 8 → (i : ℕ) → i < length s → (a b : Bool) → ltb i 8 ≡ a → ltb i (length s - 8) ≡ b → get_or s i 0 ≡ get_or t i 0
   unfolding middle_at
   where-go x y z i h true b e f = byte-same s t p q 0 x i (omega arith) (ltb-true i 8 e)
   where-go x y z i h false false e f = byte-same s t p q (length s - 8) z i (ltb-false i (length s - 8) f) (omega (arith, h, least))
@@ -108,19 +108,19 @@ module _ (n : List ℕ) (k : ℕ) (c : has k (candidates_of n) ≡ true) where
   unfolding candidates_of
   shares-length = ((lawful (length n) (get_or n 0 0)).only k c).1
 
-  pub name-least : 8 ≤ length n
-  name-least = omega (arith, known-least k (below-known n k c), shares-length)
+  pub name_least : 8 ≤ length n
+  name_least = omega (arith, known-least k (below-known n k c), shares-length)
 
-  pub name-most : length n ≤ 24
-  name-most = omega (arith, known-most k (below-known n k c), shares-length)
+  pub name_most : length n ≤ 24
+  name_most = omega (arith, known-most k (below-known n k c), shares-length)
 
   middle-go : (b : Bool) → ltb (length n) 16 ≡ b → pick b (length n - 8) 8 + 8 ≤ length n
-  middle-go true e = omega (arith, name-least)
+  middle-go true e = omega (arith, name_least)
   middle-go false e = ltb-false (length n) 16 e
 
-  pub middle-in : (m : ℕ) → m ≡ middle_at (length n) → m + 8 ≤ length n
+  pub middle_in : (m : ℕ) → m ≡ middle_at (length n) → m + 8 ≤ length n
   unfolding middle_at
-  middle-in m e = rw e (middle-go (ltb (length n) 16) refl)
+  middle_in m e = rw e (middle-go (ltb (length n) 16) refl)
 
   words_of : (m : ℕ) → m ≡ middle_at (length n)
       → ((eqb (be_at n 0 8) (spelt k).head && eqb (be_at n m 8) (spelt k).middle) && eqb (be_at n (length n - 8) 8) (spelt k).tail) ≡ true
@@ -133,7 +133,7 @@ module _ (n : List ℕ) (k : ℕ) (c : has k (candidates_of n) ≡ true) where
       let y : be_at n m 8 ≡ be_at (name_at k) (middle_at (length (name_at k))) 8 = eqb-true _ _ (&&-right (eqb (be_at n 0 8) (be_at (name_at k) 0 8)) _ hm) in
       let z : be_at n (length n - 8) 8 ≡ be_at (name_at k) (length (name_at k) - 8) 8 =
       eqb-true _ _ (&&-right (eqb (be_at n 0 8) (spelt k).head && eqb (be_at n m 8) (spelt k).middle) _ w) in
-      let u = same-words n (name_at k) p (known_bytes k (below-known n k c)) (sym l) name-least name-most x (rw (e, l) at y) (rw l at z) in
+      let u = same-words n (name_at k) p (known_bytes k (below-known n k c)) (sym l) name_least name_most x (rw (e, l) at y) (rw l at z) in
       subst (λ (t : List ℕ). same n t ≡ true) u (same_refl n)
 
   of_words : (m : ℕ) → m ≡ middle_at (length n) → same n (name_at k) ≡ true

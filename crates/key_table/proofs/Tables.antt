@@ -1,23 +1,34 @@
 -- The tables of the code are those of the definitions: each rule is one test, computed over the whole table.
 use mathlib.Core.Path.{◌≡◌, refl, sym, ap, ◌∙◌, subst}
-use mathlib.Core.Bool.{Bool, true, false, not, ◌&&◌, ◌||◌}
+use mathlib.Core.Bool.{Bool, true, false, ◌&&◌, ◌||◌}
 use mathlib.Core.List.{List, [], ◌∷◌, map}
+use denote.Enum.Declared.{tag_of}
 use Prim.Native.Nat.{ℕ, suc, ◌<◌, ◌≤◌}
 use native.Mathlib.Omega.{arith}
 use lib.ListN.{get_or, length}
 use lib.Seq.{ext_get_or}
+use Rattle.std.proofs.Common.{rules}
 use Rattle.std.proofs.lemmas.List.{get_or-map}
 use native.Mathlib.Nat.{not-suc-le-zero, le_of_suc-le-suc}
-use lib.Dec.{leb, ltb, eqb}
+use lib.Dec.{ltb, eqb}
 use borrow.Author.Tests.{ltb-true, le-ltb, eqb-true, eq-eqb, ne_eqb}
 use Rattle.text.specs.Text.{same, pick, all}
 use Rattle.text.proofs.Laws.{below, at, same-eq, &&-left, &&-right, false-true}
 use Rattle.text_block.specs.Block.{good_name, name_byte}
-use Rattle.key_table.specs.Table.{Known, known, key, key_of, name_at, kind_at, place_in, row, rows, row_at, is_bool}
+use Rattle.key_table.specs.Table.{Known, known, key, place_of_key, key_of, name_at, kind_at, place_in, row, rows, row_at}
+use Rattle.key_table.specs.contracts.table.Key.{the_type}
+use Rattle.key_table.specs.declared.table.Key.{Key}
 use Rattle.key_table.specs.declared.table.Kind.{Kind}
 use Rattle.key_table.specs.declared.table.Kind.TheVariants as K
 use Rattle.key_table.specs.declared.table.Rule.TheVariants as R
 use Rattle.key_table.specs.declared.table.Row.{Row}
+
+-- A key's number in the code is its place, one of 28.
+pub number-place : (k : Key) → tag_of the_type k ≡ place_of_key k
+number-place k = search rules
+
+pub place-few : (k : Key) → place_of_key k < 28
+place-few k = search rules
 
 abbrev none : Known
 none = key "" K.Refused
@@ -90,7 +101,9 @@ known-formed n p = subst (λ (m : List ℕ). good_name m ≡ true) (sym (known-n
 -- A list of the rows' values at a field is that column.
 pub column : (f : Row → ℕ) (l : List ℕ) → length l ≡ 12 → ((i : ℕ) → i < 12 → get_or l i 0 ≡ f (row_at i)) → l ≡ map f rows
 unfolding rows row_at
-column f l e h = ext_get_or 0 l (map f rows) e (λ i b. let k : i < 12 = omega (arith, e, b) in h i k ∙ sym (get_or-map f rows i (row R.Declared 0 0 0 0) 0 k))
+column f l e h =
+    ext_get_or 0 l (map f rows) e
+    (λ i b. let k : i < 12 = omega (arith, e, b) in h i k ∙ sym (get_or-map f rows i (row R.Declared 0 0 0 0) 0 k))
 
 -- What a key is: a test over a run of keys, past those that are skipped.
 unfoldable pub code : Kind → ℕ
@@ -141,20 +154,6 @@ module _ (k : ℕ) where
   unfolding all_are kind_at known code
   is-negotiated h n = kind-in K.Negotiated (λ (i : ℕ). eqb i 6) 12 refl k h (ne_eqb k 6 n)
 
-  pub is-digest : k < 14 → 12 ≤ k → kind_at k ≡ K.Digest
-  unfolding all_are kind_at known code
-  is-digest h l = kind-in K.Digest (λ (i : ℕ). ltb i 12) 14 refl k h (le-ltb k 12 l)
-
-  pub is-marker : k < 24 → 20 ≤ k → kind_at k ≡ K.Marker
-  unfolding all_are kind_at known code
-  is-marker h l = kind-in K.Marker (λ (i : ℕ). ltb i 20) 24 refl k h (le-ltb k 20 l)
-
-  pub is-refused : k < 28 → 24 ≤ k → kind_at k ≡ K.Refused
-  unfolding all_are kind_at known code
-  is-refused h l = kind-in K.Refused (λ (i : ℕ). ltb i 24) 28 refl k h (le-ltb k 24 l)
-
-pub ruleset kinds = (is-negotiated, is-digest, is-marker)
-
 -- A key of the table is one of the first twelve.
 unfoldable tabled : ℕ → Bool
 tabled k = ltb k 12 || ltb 1 (code (kind_at k))
@@ -170,25 +169,3 @@ or_left false b e h = false-true (sym e ∙ h)
 pub in_table : (k : ℕ) → k < 28 → code (kind_at k) ≤ 1 → k < 12
 unfolding tabled
 in_table k h c = ltb-true k 12 (or_left _ _ (le-ltb _ _ c) (at tabled 28 twelve k h))
-
--- Two tests say the same.
-abbrev pub agree : Bool → Bool → Bool
-agree true b = b
-agree false b = not b
-
-pub agrees : (a b : Bool) → agree a b ≡ true → a ≡ b
-agrees true b e = sym e
-agrees false true e = e
-agrees false false e = refl
-
--- Whether a row's values are boolean, by its place.
-boolean : ℕ → Bool
-boolean k = agree (leb 2 k && leb k 5) (is_bool (row_at k).rule)
-
-all-boolean : below boolean 12 ≡ true
-unfolding boolean row_at rows
-all-boolean = refl
-
-pub bool_at : (k : ℕ) → k < 12 → (leb 2 k && leb k 5) ≡ is_bool (row_at k).rule
-unfolding boolean
-bool_at k h = agrees _ _ (at boolean 12 all-boolean k h)

@@ -1,7 +1,9 @@
 -- The known keys: their names, what each is, and the table of twelve with rule, range and standard value.
-use Rattle.std.specs.Prelude.{ℕ, suc, Bool, true, false, List, [], ◌∷◌, map, get_or, replicate}
+use Rattle.std.specs.Prelude.{ℕ, suc, Bool, true, false, List, [], ◌∷◌, map, get_or, replicate, Option, None, Some, slice_get}
 use Prim.Native.String.{String}
 use Rattle.text.specs.Text.{pick, bytes, same}
+use Rattle.key_table.specs.declared.table.Key.{Key}
+use Rattle.key_table.specs.declared.table.Key.TheVariants as Name
 use Rattle.key_table.specs.declared.table.Kind.{Kind}
 use Rattle.key_table.specs.declared.table.Kind.TheVariants as K
 use Rattle.key_table.specs.declared.table.Rule.{Rule}
@@ -58,6 +60,79 @@ place_in n (x ∷ xs) = pick (same n x.name) 0 (suc (place_in n xs))
 -- the key of a name, compared whole and with case; 28 for a name that is not known
 unfoldable pub key_of : List ℕ → ℕ
 key_of n = place_in n known
+
+-- the place of a key in the order of the names
+abbrev pub place_of_key : Key → ℕ
+place_of_key Name.MaxConnections = 0
+place_of_key Name.MaxOutstandingR2t = 1
+place_of_key Name.InitialR2t = 2
+place_of_key Name.DataPduInOrder = 3
+place_of_key Name.DataSequenceInOrder = 4
+place_of_key Name.ImmediateData = 5
+place_of_key Name.MaxRecvDataSegmentLength = 6
+place_of_key Name.MaxBurstLength = 7
+place_of_key Name.FirstBurstLength = 8
+place_of_key Name.DefaultTime2Wait = 9
+place_of_key Name.DefaultTime2Retain = 10
+place_of_key Name.ErrorRecoveryLevel = 11
+place_of_key Name.HeaderDigest = 12
+place_of_key Name.DataDigest = 13
+place_of_key Name.TaskReporting = 14
+place_of_key Name.AuthMethod = 15
+place_of_key Name.InitiatorName = 16
+place_of_key Name.TargetName = 17
+place_of_key Name.SessionType = 18
+place_of_key Name.InitiatorAlias = 19
+place_of_key Name.IfMarker = 20
+place_of_key Name.OfMarker = 21
+place_of_key Name.IfMarkInt = 22
+place_of_key Name.OfMarkInt = 23
+place_of_key Name.TargetAlias = 24
+place_of_key Name.TargetAddress = 25
+place_of_key Name.TargetPortalGroupTag = 26
+place_of_key Name.SendTargets = 27
+
+-- the keys in that order
+abbrev pub keys_in_order : List Key
+keys_in_order =
+    Name.MaxConnections
+    ∷ Name.MaxOutstandingR2t
+    ∷ Name.InitialR2t
+    ∷ Name.DataPduInOrder
+    ∷ Name.DataSequenceInOrder
+    ∷ Name.ImmediateData
+    ∷ Name.MaxRecvDataSegmentLength
+    ∷ Name.MaxBurstLength
+    ∷ Name.FirstBurstLength
+    ∷ Name.DefaultTime2Wait
+    ∷ Name.DefaultTime2Retain
+    ∷ Name.ErrorRecoveryLevel
+    ∷ Name.HeaderDigest
+    ∷ Name.DataDigest
+    ∷ Name.TaskReporting
+    ∷ Name.AuthMethod
+    ∷ Name.InitiatorName
+    ∷ Name.TargetName
+    ∷ Name.SessionType
+    ∷ Name.InitiatorAlias
+    ∷ Name.IfMarker
+    ∷ Name.OfMarker
+    ∷ Name.IfMarkInt
+    ∷ Name.OfMarkInt
+    ∷ Name.TargetAlias
+    ∷ Name.TargetAddress
+    ∷ Name.TargetPortalGroupTag
+    ∷ Name.SendTargets
+    ∷ []
+
+-- the key in a place, none behind the last
+unfoldable pub key_at : ℕ → Option Key
+key_at k = slice_get keys_in_order k
+
+-- the place of a key that was looked for, 28 where none was found
+abbrev pub place_of_found : Option Key → ℕ
+place_of_found None = 28
+place_of_found (Some k) = place_of_key k
 
 unfoldable pub name_at : ℕ → List ℕ
 name_at k = (get_or known k (key "" K.Refused)).name

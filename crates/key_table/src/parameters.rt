@@ -2,10 +2,27 @@
 ghost use Rattle.std.specs.Prelude.{◌≡◌};
 ghost use Rattle.key_table.specs.Table.{standards, own, none_seen};
 
-use crate::table::ROWS;
+use crate::table::TABLE;
 
-// The place of the one key of the table that is declared.
-pub const MAX_RECV_DATA_SEGMENT_LENGTH: usize = 6;
+// A column of the table.
+macro_rules! column {
+    ($field:ident) => {
+        [
+            TABLE[0].$field,
+            TABLE[1].$field,
+            TABLE[2].$field,
+            TABLE[3].$field,
+            TABLE[4].$field,
+            TABLE[5].$field,
+            TABLE[6].$field,
+            TABLE[7].$field,
+            TABLE[8].$field,
+            TABLE[9].$field,
+            TABLE[10].$field,
+            TABLE[11].$field,
+        ]
+    };
+}
 
 #[derive(Clone, Copy)]
 pub struct Parameters {
@@ -14,21 +31,25 @@ pub struct Parameters {
 
 impl Parameters {
     // In force until a key is settled.
+    pub const STANDARD: [u32; 12] = column!(standard);
+
+    // What we bring to the settling: the standard value, but 4 MaxConnections and ErrorRecoveryLevel 1.
+    pub const OURS: [u32; 12] = column!(ours);
+
+    #[tactic(auto, unfolding(crate::specs::Table::standards, crate::specs::Table::rows))]
     pub fn standard() -> Self
         ensures { result.values ≡ standards }
     {
         Self {
-            values: ROWS.map(|row| row.standard),
+            values: Self::STANDARD,
         }
     }
 
-    // What we bring to the settling: the standard value, but 4 MaxConnections and ErrorRecoveryLevel 1.
+    #[tactic(auto, unfolding(crate::specs::Table::own, crate::specs::Table::rows))]
     pub fn ours() -> Self
         ensures { result.values ≡ own }
     {
-        Self {
-            values: ROWS.map(|row| row.ours),
-        }
+        Self { values: Self::OURS }
     }
 }
 
@@ -41,6 +62,7 @@ pub struct Settled {
 
 impl Settled {
     // Nothing came yet: every standard value is in force.
+    #[tactic(auto, unfolding(crate::specs::Table::none_seen))]
     pub fn fresh() -> Self
         ensures { result ≡ none_seen }
     {

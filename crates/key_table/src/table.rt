@@ -1,6 +1,39 @@
-// The known keys: one table of names, and one of the twelve keys that have a rule, a range and a standard value.
+// The known keys and what each is, and the table of the twelve that have a rule, a range and a standard value.
 ghost use Rattle.std.specs.Prelude.{◌≡◌, ◌<◌};
-ghost use Rattle.key_table.specs.Table.{kind_at, row_at};
+ghost use Rattle.key_table.specs.Table.{place_of_key, kind_at, row_at};
+
+// A known key, in the order of the names; its number is its place there.
+#[derive(Clone, Copy, PartialEq, Eq)]
+pub enum Key {
+    MaxConnections,
+    MaxOutstandingR2t,
+    InitialR2t,
+    DataPduInOrder,
+    DataSequenceInOrder,
+    ImmediateData,
+    MaxRecvDataSegmentLength,
+    MaxBurstLength,
+    FirstBurstLength,
+    DefaultTime2Wait,
+    DefaultTime2Retain,
+    ErrorRecoveryLevel,
+    HeaderDigest,
+    DataDigest,
+    TaskReporting,
+    AuthMethod,
+    InitiatorName,
+    TargetName,
+    SessionType,
+    InitiatorAlias,
+    IfMarker,
+    OfMarker,
+    IfMarkInt,
+    OfMarkInt,
+    TargetAlias,
+    TargetAddress,
+    TargetPortalGroupTag,
+    SendTargets,
+}
 
 // What a known key is, in the order of the rules that judge it.
 #[derive(Clone, Copy)]
@@ -42,17 +75,6 @@ pub struct Row {
     pub ours: u32,
 }
 
-pub const KNOWN: usize = 28;
-
-// Places in the order of the names: the keys before AuthMethod are operational.
-pub const TASK_REPORTING: usize = 14;
-
-pub const AUTH_METHOD: usize = 15;
-
-pub const INITIATOR_NAME: usize = 16;
-
-pub const TARGET_NAME: usize = 17;
-
 // A row of the table on one line: rule, range, standard value, and ours.
 macro_rules! row {
     ($rule:ident, $low:literal, $high:literal, $standard:literal, $ours:literal) => {
@@ -67,7 +89,7 @@ macro_rules! row {
 }
 
 // The twelve keys, in the order of their names.
-pub(crate) static ROWS: [Row; 12] = [
+pub(crate) const TABLE: [Row; 12] = [
     row!(Least, 1, 65535, 1, 4), // MaxConnections
     row!(Least, 1, 65535, 1, 1), // MaxOutstandingR2T
     row!(Or, 0, 1, 1, 1), // InitialR2T
@@ -82,6 +104,11 @@ pub(crate) static ROWS: [Row; 12] = [
     row!(Least, 0, 2, 0, 1), // ErrorRecoveryLevel
 ];
 
+// The table where it is indexed by a key: a constant would be built there on the stack.
+static ROWS: [Row; 12] = TABLE;
+
+// The row of a place below twelve: no Key, since only twelve of the keys have one.
+#[tactic(auto, using(std::proofs::lemmas::List::get_or_default), unfolding(crate::specs::Table::row_at, crate::specs::Table::rows))]
 pub fn row_of(k: usize) -> Row
     requires { k < 12 }
     ensures { result ≡ row_at k }
@@ -89,22 +116,32 @@ pub fn row_of(k: usize) -> Row
     ROWS[k]
 }
 
-#[tactic(auto, using(crate::proofs::Tables::kinds), unfolding(crate::specs::Table::kind_at, crate::specs::Table::known))]
-pub fn kind_of(k: usize) -> Kind
-    requires { k < 28 }
-    ensures { result ≡ kind_at k }
+#[tactic(auto, unfolding(crate::specs::Table::kind_at, crate::specs::Table::known))]
+pub fn kind_of(k: Key) -> Kind
+    ensures { result ≡ kind_at (place_of_key k) }
 {
     match k {
-        6 => Kind::Declared,
-        0..=11 => Kind::Negotiated,
-        12 | 13 => Kind::Digest,
-        14 => Kind::TaskReporting,
-        15 => Kind::AuthMethod,
-        16 => Kind::InitiatorName,
-        17 => Kind::TargetName,
-        18 => Kind::SessionType,
-        19 => Kind::InitiatorAlias,
-        20..=23 => Kind::Marker,
-        _ => Kind::Refused,
+        Key::MaxConnections
+        | Key::MaxOutstandingR2t
+        | Key::InitialR2t
+        | Key::DataPduInOrder
+        | Key::DataSequenceInOrder
+        | Key::ImmediateData
+        | Key::MaxBurstLength
+        | Key::FirstBurstLength
+        | Key::DefaultTime2Wait
+        | Key::DefaultTime2Retain
+        | Key::ErrorRecoveryLevel => Kind::Negotiated,
+        Key::MaxRecvDataSegmentLength => Kind::Declared,
+        Key::HeaderDigest | Key::DataDigest => Kind::Digest,
+        Key::TaskReporting => Kind::TaskReporting,
+        Key::AuthMethod => Kind::AuthMethod,
+        Key::InitiatorName => Kind::InitiatorName,
+        Key::TargetName => Kind::TargetName,
+        Key::SessionType => Kind::SessionType,
+        Key::InitiatorAlias => Kind::InitiatorAlias,
+        Key::IfMarker | Key::OfMarker | Key::IfMarkInt | Key::OfMarkInt => Kind::Marker,
+        Key::TargetAlias | Key::TargetAddress | Key::TargetPortalGroupTag | Key::SendTargets =>
+            Kind::Refused,
     }
 }

@@ -1,11 +1,11 @@
 // The value of a key of the table: the offer within its range, and what it settles with ours.
-ghost use Rattle.std.specs.Prelude.{◌≡◌, ◌<◌};
+ghost use Rattle.std.specs.Prelude.{◌≡◌};
 ghost use Rattle.text.specs.Text.{pick};
 ghost use Rattle.text_number.specs.Number.{number_of};
-ghost use Rattle.key_table.specs.Table.{row_at, is_bool};
+ghost use Rattle.key_table.specs.Table.{is_bool};
 ghost use Rattle.key_values.specs.Settle.{bool_of, ranged, settled_by, yes_no, reply_for, settling};
 
-use key_table::table::{Rule, row_of};
+use key_table::table::{Row, Rule};
 use text::slice::same_bytes;
 use text_number::number::number_of;
 
@@ -23,7 +23,8 @@ pub enum Reply {
     Number(u32),
 }
 
-// A judged pair that no status refuses.
+// A judged pair that no status refuses. Two cases, and not a reply beside an Option of a value: the rules speak of them
+// (`keys/specs/Judge`, `key_values/specs/Settle`).
 #[derive(Clone, Copy)]
 pub enum Judgement {
     // Answered, and settles no value.
@@ -32,12 +33,11 @@ pub enum Judgement {
     Settles(u32, Reply),
 }
 
-// Four keys of the table have boolean values.
-fn is_bool(k: usize) -> bool
-    requires { k < 12 }
-    ensures { result ≡ is_bool (row_at k).rule }
+// Whether a key with this rule has boolean values.
+fn is_bool(rule: Rule) -> bool
+    ensures { result ≡ is_bool rule }
 {
-    (2 <= k) & (k <= 5)
+    matches!(rule, Rule::Or | Rule::And)
 }
 
 // Yes is 1 and No is 0.
@@ -84,8 +84,8 @@ fn settle_by(rule: Rule, a: u32, b: u32) -> u32
     match rule {
         Rule::Least => a.min(b),
         Rule::Greatest => a.max(b),
-        Rule::Or => ((a == 1) | (b == 1)) as u32,
-        Rule::And => ((a == 1) & (b == 1)) as u32,
+        Rule::Or => u32::from((a == 1) | (b == 1)),
+        Rule::And => u32::from((a == 1) & (b == 1)),
         Rule::Declared => a,
     }
 }
@@ -101,22 +101,18 @@ fn reply_for(rule: Rule, n: u32) -> Reply
     ensures { result ≡ reply_for rule n }
 {
     match rule {
-        Rule::Least => Reply::Number(n),
-        Rule::Greatest => Reply::Number(n),
-        Rule::Or => yes_no(n),
-        Rule::And => yes_no(n),
+        Rule::Least | Rule::Greatest => Reply::Number(n),
+        Rule::Or | Rule::And => yes_no(n),
         Rule::Declared => Reply::Silent,
     }
 }
 
-// An offered value of key k of the table: settled, or rejected.
+// An offered value of the key of this row: settled, or rejected.
 #[tactic(auto, unfolding(crate::specs::Settle::settling, crate::specs::Settle::offered))]
-pub fn settle(k: usize, v: &[u8]) -> Judgement
-    requires { k < 12 }
-    ensures { result ≡ settling (row_at k) v.now }
+pub fn settle(row: Row, v: &[u8]) -> Judgement
+    ensures { result ≡ settling row v.now }
 {
-    let row = row_of(k);
-    let Some(x) = offered_in(is_bool(k), row.low, row.high, v) else {
+    let Some(x) = offered_in(is_bool(row.rule), row.low, row.high, v) else {
         return Judgement::Said(Reply::Reject);
     };
     let y = settle_by(row.rule, x, row.ours);

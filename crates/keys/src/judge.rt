@@ -1,13 +1,21 @@
 // One pair of a block, judged: wrong stage, leading login only and twice come before its value.
-ghost use Rattle.std.specs.Prelude.{◌≡◌, false, ◌≤◌, ◌<◌, get_or, Ok};
+ghost use Rattle.std.specs.Prelude.{◌≡◌, false, get_or, Ok};
 ghost use Rattle.text.specs.Text.{pick, listed};
-ghost use Rattle.key_table.specs.Table.{kind_at};
+ghost use Rattle.key_table.specs.Table.{kind_at, place_of_key, place_of_found};
 ghost use Rattle.key_values.specs.declared.value.Judgement.TheVariants as J;
 ghost use Rattle.keys.specs.Judge.{good_length, initiator_name, target_name, session_type, judge_by, stands, leading_only, judge_key, judge_named};
 
-use key_table::table::{KNOWN, Kind, kind_of};
+use key_table::table::{Key, Kind, kind_of, row_of};
 use key_values::value::{Judgement, Reply, settle};
 use text::slice::{lists, same_bytes};
+
+// What a pair is judged by beside its key, its value and the keys that came: the request's stage, whether the login is leading, and our target name.
+#[derive(Clone, Copy)]
+pub struct Context<'a> {
+    pub stage: u8,
+    pub leading: bool,
+    pub ours: &'a [u8],
+}
 
 // InitiatorName and TargetName have 1 to 223 bytes.
 fn length_good(v: &[u8]) -> bool
@@ -70,14 +78,14 @@ fn by_list(
     }
 }
 
-// The value of key k, which is of this kind.
+// The value of key k, which is of this kind. A key that is settled by a row has it at its place.
 #[tactic(auto, unfolding(crate::specs::Judge::digest, crate::specs::Judge::task_reporting, crate::specs::Judge::auth_method))]
-fn judge_value(kind: Kind, k: usize, ours: &[u8], v: &[u8]) -> Result<Judgement, u16>
-    requires { (k < 28) × (kind ≡ kind_at k) }
-    ensures { result ≡ judge_by kind k ours.now v.now }
+fn judge_value(kind: Kind, k: Key, ours: &[u8], v: &[u8]) -> Result<Judgement, u16>
+    requires { kind ≡ kind_at (place_of_key k) }
+    ensures { result ≡ judge_by kind (place_of_key k) ours.now v.now }
 {
     match kind {
-        Kind::Negotiated | Kind::Declared => Ok(settle(k, v)),
+        Kind::Negotiated | Kind::Declared => Ok(settle(row_of(k as usize), v)),
         Kind::Digest => by_list(v, b"None", Reply::None, Ok(Judgement::Said(Reply::Reject))),
         Kind::TaskReporting => by_list(
             v,
@@ -120,39 +128,28 @@ fn only_leading(kind: Kind) -> bool
 
 // A known key, seen before in this login or not.
 #[tactic(auto, unfolding(crate::specs::Judge::judge_key))]
-fn judge_key(
-    seen: bool,
-    stage: u8,
-    leading: bool,
-    ours: &[u8],
-    k: usize,
-    v: &[u8],
-) -> Result<Judgement, u16>
-    requires { k < 28 }
-    ensures { result ≡ judge_key seen stage leading ours.now k v.now }
+fn judge_key(seen: bool, by: &Context<'_>, k: Key, v: &[u8]) -> Result<Judgement, u16>
+    ensures { result ≡ judge_key seen by.now.stage by.now.leading by.now.ours.now (place_of_key k) v.now }
 {
     let kind = kind_of(k);
-    if !may_stand(kind, stage) | (only_leading(kind) & !leading) | seen {
+    if !may_stand(kind, by.stage) | (only_leading(kind) & !by.leading) | seen {
         return Err(0x0200);
     }
-    judge_value(kind, k, ours, v)
+    judge_value(kind, k, by.ours, v)
 }
 
-// A pair whose name is key k's, KNOWN for a name that is not known, after these keys came.
+// A pair whose name is key k's, None for one that is not known, after these keys came.
 #[tactic(auto, unfolding(crate::specs::Judge::judge_named))]
 pub fn judge_pair(
     seen: &[bool; 28],
-    stage: u8,
-    leading: bool,
-    ours: &[u8],
-    k: usize,
+    by: &Context<'_>,
+    k: Option<Key>,
     v: &[u8],
 ) -> Result<Judgement, u16>
-    requires { k ≤ 28 }
-    ensures { result ≡ judge_named (get_or seen.now k false) stage leading ours.now k v.now }
+    ensures { result ≡ judge_named (get_or seen.now (place_of_found k) false) by.now.stage by.now.leading by.now.ours.now (place_of_found k) v.now }
 {
-    if k == KNOWN {
+    let Some(k) = k else {
         return Ok(Judgement::Said(Reply::NotUnderstood));
-    }
-    judge_key(seen[k], stage, leading, ours, k, v)
+    };
+    judge_key(seen[k as usize], by, k, v)
 }

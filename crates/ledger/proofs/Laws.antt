@@ -4,7 +4,7 @@ use Prim.Native.Nat.{ℕ, zero, suc, ◌+◌, ◌-◌, ◌*◌, ◌%◌, ◌^◌
 use mathlib.Core.Path.{◌≡◌, refl, sym, ap, ◌∙◌, subst}
 use mathlib.Core.Bool.{Bool, true, false, ◌&&◌}
 use mathlib.Core.List.{List, [], ◌∷◌, ◌++◌}
-use Rattle.std.specs.Prelude.{Ok, Err}
+use Rattle.std.specs.Prelude.{Some, None, Ok, Err}
 use Rattle.std.specs.Bool.{then_some}
 use native.Mathlib.Nat.{zero-add}
 use native.Mathlib.Omega.{arith}
@@ -28,7 +28,6 @@ use Rattle.ledger.specs.declared.Ledger.{Ledger}
 use Rattle.ledger.specs.declared.Renewal.{Renewal}
 use Rattle.ledger.specs.Book.{Status, LedgerBook, oldest, place, is_status, is_full, refused, not_stored, stored, sending, header_for, send_bytes, sent, released, run_at, run_of, with_tag, renewed_for, renewed, Found, missing, found, lookup, status_of}
 use Rattle.ledger.specs.Book as Book
-use Rattle.ledger.specs.declared.Sent.TheVariants as S
 use Rattle.ledger.specs.Answer.{resent, running, run_answer}
 use Rattle.ledger.specs.Answer as Answers
 use Rattle.ledger.specs.Agree.{Statuses, statuses_in, SlotHas, Agrees, Puts, Stored, Sends, Showing, showing}
@@ -210,48 +209,24 @@ sets-front a x i (v ∷ vs) l =
 -- the SNACK tag and the ExpDataSN stand in the first 48 bytes
 pub length-tagged : (h : List ℕ) (t : ℕ) → length (with_tag h t) ≡ length h
 unfolding with_tag
-length-tagged h t = go (eqb t 0)
-  where
-    go : (z : Bool) → length (pick z h (sets h 20 (bytes_of 4 t))) ≡ length h
-    go true = refl
-    go false = length-sets h 20 (bytes_of 4 t)
+length-tagged h t = grind (arith, length-sets h 20 (bytes_of 4 t))
 
 tagged-front : (a x : List ℕ) (t : ℕ) → length a ≡ 48 → with_tag (a ++ x) t ≡ with_tag a t ++ x
 unfolding with_tag
-tagged-front a x t l = go (eqb t 0)
-  where
-    go : (z : Bool) → pick z (a ++ x) (sets (a ++ x) 20 (bytes_of 4 t)) ≡ pick z a (sets a 20 (bytes_of 4 t)) ++ x
-    go true = refl
-    go false = sets-front a x 20 (bytes_of 4 t) (omega (arith, length-bytes 4 t))
+tagged-front a x t l = grind (arith, sets-front a x 20 (bytes_of 4 t) (omega (arith, length-bytes 4 t)))
 
 pub length-renewed-for : (n : Numbering) (h : List ℕ) → length (renewed_for n h) ≡ length h
 unfolding renewed_for
-length-renewed-for n h = go (eqb (byte h 0) 0x21)
-  where
-    t : List ℕ
-    t = with_tag h n.snack_tag
-
-    e : List ℕ
-    e = bytes_of 4 (exp_data_sn_of n (byte h 2))
-
-    go : (z : Bool) → length (pick z (sets t 36 e) h) ≡ length h
-    go true = length-sets t 36 e ∙ length-tagged h n.snack_tag
-    go false = refl
+length-renewed-for n h =
+    grind (arith, length-sets (with_tag h n.snack_tag) 36 (bytes_of 4 (exp_data_sn_of n (byte h 2))), length-tagged h n.snack_tag)
 
 pub renewed-front : (n : Numbering) (a x : List ℕ) → length a ≡ 48 → renewed_for n (a ++ x) ≡ renewed_for n a ++ x
 unfolding renewed_for
 renewed-front n a x l =
-    rw (get_or-append a x 0 0 (omega arith), get_or-append a x 0 2 (omega arith), tagged-front a x n.snack_tag l) (go (eqb (byte a 0) 0x21))
-  where
-    t : List ℕ
-    t = with_tag a n.snack_tag
-
-    e : List ℕ
-    e = bytes_of 4 (exp_data_sn_of n (byte a 2))
-
-    go : (z : Bool) → pick z (sets (t ++ x) 36 e) (a ++ x) ≡ pick z (sets t 36 e) a ++ x
-    go true = sets-front t x 36 e (omega (arith, length-bytes 4 (exp_data_sn_of n (byte a 2)), length-tagged a n.snack_tag))
-    go false = refl
+    let e = bytes_of 4 (exp_data_sn_of n (byte a 2)) in
+    let s = sets-front (with_tag a n.snack_tag) x 36 e
+    (omega (arith, length-bytes 4 (exp_data_sn_of n (byte a 2)), length-tagged a n.snack_tag)) in
+    rw (get_or-append a x 0 0 (omega arith), get_or-append a x 0 2 (omega arith), tagged-front a x n.snack_tag l) (grind (arith, s))
 
 pub renew : (a x : List ℕ) (n : Renewal) → length a ≡ 48
     → sets (sets (renewed_for n.numbering a ++ x) 28 (bytes_of 4 n.exp_cmd_sn)) 32 (bytes_of 4 n.max_cmd_sn) ≡ renewed a n ++ x
@@ -266,7 +241,8 @@ renew a x n l =
 
 -- two numbers written as one
 pub renew-both : (l : List ℕ) (e m : ℕ) → sets l 28 (bytes_of 4 e ++ bytes_of 4 m) ≡ sets (sets l 28 (bytes_of 4 e)) 32 (bytes_of 4 m)
-renew-both l e m = sym (sets-append l 28 (bytes_of 4 e) (bytes_of 4 m)) ∙ ap (λ (k : ℕ). sets (sets l 28 (bytes_of 4 e)) (28 + k) (bytes_of 4 m)) (length-bytes 4 e)
+renew-both l e m = sym (sets-append l 28 (bytes_of 4 e) (bytes_of 4 m)) ∙ ap (λ (k : ℕ). sets (sets l 28 (bytes_of 4 e)) (28 + k) (bytes_of 4 m))
+    (length-bytes 4 e)
 
 pub resend-missing : (c : ℕ) (l : Ledger) (ss : Statuses) (out : List ℕ) (b : LedgerBook) (n k : ℕ) (x : Renewal) → Agrees c l ss b → k ≡ place b n
     → l.held ≤ k
@@ -367,7 +343,7 @@ module _ (c : ℕ) (l : Ledger) (ticket : ℕ) (r : Response) (longest : ℕ) (d
     right b g = is ∙ same-header b r l.next e m g.next
 
     pub sends-unstored : is_status r ≡ false → ((b : LedgerBook) → Agrees c l ss b → sending b longest due r ≡ not_stored b.next)
-        → Sends c l ticket r longest due e m out ss (Ok (S.NotStored l.next)) (h ++ drop 48 out) ss
+        → Sends c l ticket r longest due e m out ss (Ok (record { stat_sn = l.next; ledger = None })) (h ++ drop 48 out) ss
     unfolding send_bytes
     sends-unstored s q = record {
       meets = λ b g. record {
@@ -385,7 +361,7 @@ module _ (c : ℕ) (l : Ledger) (ticket : ℕ) (r : Response) (longest : ℕ) (d
 
     pub sends-stored : (l' : Ledger) (ss' : Statuses) → is_status r ≡ true → Stored c l ticket h ss l' ss'
         → ((b : LedgerBook) → Agrees c l ss b → sending b longest due r ≡ stored b.next)
-        → Sends c l ticket r longest due e m out ss (Ok (S.Stored l.next l')) (h ++ drop 48 out) ss'
+        → Sends c l ticket r longest due e m out ss (Ok (record { stat_sn = l.next; ledger = Some l' })) (h ++ drop 48 out) ss'
     unfolding send_bytes
     sends-stored l' ss' s k q = record {
       meets = λ b g. record {

@@ -12,7 +12,6 @@ use Rattle.ledger.specs.Answer as Answers
 use Rattle.ledger.specs.declared.Ledger.{Ledger}
 use Rattle.ledger.specs.declared.Renewal.{Renewal}
 use Rattle.ledger.specs.declared.Sent.{Sent}
-use Rattle.ledger.specs.declared.Sent.TheVariants as S
 use Rattle.ledger.specs.declared.Released.{Released}
 
 -- The slots of the four connections.
@@ -63,23 +62,33 @@ pub record Stored (c : ℕ) (l : Ledger) (ticket : ℕ) (header : List ℕ) (ss 
 
 -- ---- send
 
+-- A number, and the ledger after it where it is a status.
+abbrev pub numbered : ℕ → Option Ledger → Sending
+numbered n None = not_stored n
+numbered n (Some l) = stored n
+
 abbrev pub sent_of : Result Sent Refusal → Sending
 sent_of (Err f) = refused (number f)
-sent_of (Ok (S.NotStored n)) = not_stored n
-sent_of (Ok (S.Stored n l)) = stored n
+sent_of (Ok x) = numbered x.stat_sn x.ledger
 
 -- The ledger after a send that stores; of the others it stays the caller's.
+abbrev pub LedgerAgrees : (c : ℕ) → Option Ledger → Statuses → LedgerBook → Type 0
+LedgerAgrees c None ss b = Unit {0}
+LedgerAgrees c (Some l) ss b = Agrees c l ss b
+
 abbrev pub SentAgrees : (c : ℕ) → Result Sent Refusal → Statuses → LedgerBook → Type 0
 SentAgrees c (Err f) ss b = Unit {0}
-SentAgrees c (Ok (S.NotStored n)) ss b = Unit {0}
-SentAgrees c (Ok (S.Stored n l)) ss b = Agrees c l ss b
+SentAgrees c (Ok x) ss b = LedgerAgrees c x.ledger ss b
 
 -- Of any ledger: "A refusal .. changes nothing"; what is not stored leaves the arrays; what is stored, the first 48 bytes of
 -- the output, changes one slot.
+abbrev pub WrittenStays : (c ticket : ℕ) → Response → (number : ℕ) → Option Ledger → (out' : List ℕ) → Statuses → Statuses → Type 0
+WrittenStays c t r n None o' ss ss' = (is_status r ≡ false) × (ss' ≡ ss)
+WrittenStays c t r n (Some l) o' ss ss' = (is_status r ≡ true) × Puts c n t (take header_size o') ss ss'
+
 abbrev pub SentStays : (c ticket : ℕ) → Response → Result Sent Refusal → (out out' : List ℕ) → Statuses → Statuses → Type 0
 SentStays c t r (Err f) o o' ss ss' = (o' ≡ o) × (ss' ≡ ss)
-SentStays c t r (Ok (S.NotStored n)) o o' ss ss' = (is_status r ≡ false) × (ss' ≡ ss)
-SentStays c t r (Ok (S.Stored n l)) o o' ss ss' = (is_status r ≡ true) × Puts c n t (take header_size o') ss ss'
+SentStays c t r (Ok x) o o' ss ss' = WrittenStays c t r x.stat_sn x.ledger o' ss ss'
 
 pub record SendsAt (c ticket : ℕ) (r : Response) (longest : ℕ) (due : Bool) (e m : ℕ) (out : List ℕ) (x : Result Sent Refusal) (out' : List ℕ)
     (ss' : Statuses) (b : LedgerBook) : Type 0 where

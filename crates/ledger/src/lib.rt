@@ -6,16 +6,19 @@
 
 ghost use Rattle.ledger.specs.Agree.{Opened};
 
+use store::HEADER_BYTES;
 use task_book::Numbering;
 
 // The statuses that a ledger can hold, and its slots.
 pub const STATUSES: u32 = 32;
 
-pub const SLOTS_EACH: usize = 32;
-// The statuses of four connections, and the bytes that their headers take.
-pub const LEDGER_SLOTS: usize = 128;
+pub const SLOTS_EACH: usize = STATUSES as usize;
 
-pub const LEDGER_BYTES: usize = 6144;
+// The statuses of four connections, and the bytes that their headers take. Headers and tickets travel apart, as the window's do: they are two arrays
+// of C's `drawbevel_session`.
+pub const LEDGER_SLOTS: usize = 4 * SLOTS_EACH;
+
+pub const LEDGER_BYTES: usize = LEDGER_SLOTS * HEADER_BYTES;
 
 // The ledger of an open connection.
 #[derive(Clone, Copy)]
@@ -37,11 +40,10 @@ pub struct Renewal {
 
 // What a send wrote.
 #[derive(Clone, Copy)]
-pub enum Sent {
-    // The StatSN of a NOP-In that is no status.
-    NotStored(u32),
-    // A status, with the connection's ledger after it.
-    Stored { stat_sn: u32, ledger: Ledger },
+pub struct Sent {
+    pub stat_sn: u32,
+    // The connection's ledger after a status; none for a NOP-In that is no status.
+    pub ledger: Option<Ledger>,
 }
 
 // What an acknowledgement released: how many statuses, and the ledger after it.
@@ -59,6 +61,7 @@ pub struct Run {
 }
 
 // The ledger of a connection that is opened with this first StatSN: it holds nothing.
+#[tactic(auto, unfolding(crate::specs::Book::fresh_ledger, crate::specs::Book::lookup, crate::specs::Agree::SlotHas))]
 pub fn opened(first: u32) -> Ledger
     ensures { Opened result first }
 {

@@ -11,7 +11,7 @@ use response_header::Numbers;
 use response_layout::OwnFields;
 use store::HEADER_BYTES;
 
-// Stores a status under the next number.
+// Stores a status under the next number. The connection is a number: see `window::CONNECTIONS`.
 pub fn keep(
     l: Ledger,
     c: usize,

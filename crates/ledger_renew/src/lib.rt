@@ -26,7 +26,7 @@ fn put_tag(out: &mut [u8], tag: u32)
     }
 }
 
-// Renews what a SCSI Response has of its task; another status has nothing of one.
+// Renews what a SCSI Response has of its task; another status has nothing of one. Out is a slice: see `store::put`.
 #[tactic(auto, unfolding(ledger::specs::Book::renewed_for))]
 pub fn renew_for(n: Numbering, out: &mut [u8])
     requires { header_size ≤ length out.old }

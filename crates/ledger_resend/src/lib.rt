@@ -14,7 +14,8 @@ use store::HEADER_BYTES;
 // Where a header has ExpCmdSN, and MaxCmdSN after it.
 const EXP_CMD_SN: usize = 28;
 
-// Resends a held status, with its ticket: its header as it was sent, but for what is renewed.
+// Resends a held status, with its ticket: its header as it was sent, but for what is renewed. The connection is a number: see `window::CONNECTIONS`.
+// Out is a slice: see `store::put`.
 pub fn resend(
     l: Ledger,
     c: usize,

@@ -15,7 +15,7 @@ use response_header::{Numbers, Response};
 
 // Sends a response on connection c: its header, with the next StatSN and both window numbers, into the first 48 bytes
 // of out, and header and ticket into the ledger. Writing's refusals, with the longest data written, come first, then FIELD
-// where the response isn't one that is due, then FULL.
+// where the response isn't one that is due, then FULL. The connection is a number: see `window::CONNECTIONS`. Out is a slice: see `store::put`.
 pub fn send(
     l: Ledger,
     c: usize,
@@ -47,12 +47,18 @@ pub fn send(
     let o = response_fields::own_fields(r);
     if !is_status(r) {
         response_writer::place(out, 0, o, n);
-        return Ok(Sent::NotStored(stat_sn));
+        return Ok(Sent {
+            stat_sn,
+            ledger: None,
+        });
     }
     if STATUSES <= l.held {
         return Err(Refusal::Full);
     }
     response_writer::place(out, 0, o, n);
     let ledger = keep(l, c, ticket, o, n, headers, tickets);
-    Ok(Sent::Stored { stat_sn, ledger })
+    Ok(Sent {
+        stat_sn,
+        ledger: Some(ledger),
+    })
 }

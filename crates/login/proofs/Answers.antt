@@ -5,21 +5,20 @@ use mathlib.Core.Path.{◌≡◌, refl, sym, ap, ◌∙◌, subst}
 use mathlib.Core.Bool.{Bool, true, false, not, ◌&&◌, ◌||◌}
 use borrow.Author.Tests.{ltb-false, eq-eqb, ne_eqb}
 use mathlib.Core.List.{List, ◌++◌}
-use Prim.Native.Nat.{ℕ, ◌+◌, ◌-◌}
+use Prim.Native.Nat.{ℕ}
 use native.Mathlib.Omega.{arith}
-use native.Mathlib.Nat.{add-sub_cancel_left}
-use lib.ListN.{length, drop, take}
+use lib.ListN.{length, take}
 use Rattle.request_header.specs.declared.Login.{Login}
 use Rattle.key_table.specs.declared.parameters.Settled.{Settled}
 use Rattle.login_book.specs.Keys.{Keys, named}
 use Rattle.login_book.specs.Book.{LoginBook}
 use Rattle.login_types.specs.Agree.{keys_of, book_of, answer_of, Answers}
-use Rattle.login_book.specs.Login.{start_text, joined, with_gather, fail, fail_text, finish, text_step, judge_step}
+use Rattle.login_book.specs.Login.{start_text, joined, with_gather, fail_text, finish, text_step, judge_step}
 use Rattle.login_book.specs.Login.{Outcome, Texted, accept, refuse, request_step, kind_step, login_step}
 use Rattle.login_text.specs.Promises.{with_names, block_result, text_of}
 use Rattle.login_gather.specs.Promises.{judged_block, judged_area, area_of, JudgedIn}
-use Rattle.login_answer.specs.Promises.{end_step, gathered_step, finish_step}
-use Rattle.login.specs.Promises.{found_step, is_six, ReadAs, FoundAs}
+use Rattle.login_answer.specs.Promises.{finish_step}
+use Rattle.login.specs.Promises.{ReadAs, FoundAs}
 use Rattle.login_book.specs.Block.{judge, Result, stopped, went}
 use Rattle.login_block.specs.Promises.{result_of}
 use Rattle.login_types.specs.declared.state.State.{State}
@@ -41,6 +40,7 @@ use Rattle.request_header.specs.declared.Request.TheVariants as R
 use Rattle.request_header.specs.declared.Limits.{Limits}
 use lib.Dec.{eqb, ltb}
 use Rattle.login_book.proofs.Reading.{reading}
+use Rattle.login_book.proofs.Checks.{status-fits}
 
 -- a code's step, with what the areas hold after it
 abbrev outcome_of : Step → List ℕ → List ℕ → Outcome
@@ -101,12 +101,6 @@ judged-is l q new ours d j g t g' t' x =
 
 -- What a request is answered, by the code's step.
 module _ (l : State) (r : Step) (g t : List ℕ) (o : Outcome) where
-  pub end-answers : (s : ℕ) → r ≡ end_step l s → fail (book_of l) s g t ≡ o → Answers l r g t o
-  end-answers s e f = subst (λ (x : Step). Answers l x g t o) (sym e) (record { outcome = f; stays = refl })
-
-  pub gather-answers : (q : Login) (n : ℕ) → r ≡ gathered_step l q n → outcome_of (gathered_step l q n) g t ≡ o → Answers l r g t o
-  gather-answers q n e f = subst (λ (x : Step). Answers l x g t o) (sym e) (record { outcome = f; stays = tt })
-
   finish-answers : (q : Login) (new : ℕ) (s : Settled) (v : Std.Result ℕ ℕ) → outcome_of (finish_step l q new s v) g t ≡ o → Answers l (finish_step l q new s v) g t o
   finish-answers q new s (Err x) f = record { outcome = f; stays = refl }
   finish-answers q new s (Ok n) f = record { outcome = f; stays = tt }
@@ -169,8 +163,8 @@ module _ (new : ℕ) (pdu : List ℕ) where
   }
 
   module _ (p : Pdu) (e : Read.answer_of (Ok p) ≡ read_pdu limits pdu) where
-    pub read-zero : new ≡ 0 → ReadAs new pdu (Err F.Field)
-    read-zero z = record {
+    pub read_zero : new ≡ 0 → ReadAs new pdu (Err F.Field)
+    read_zero z = record {
       other = refl;
       step = λ l live ours g t. rw (← e) (kind-zero l (data_of pdu p) live new ours g t p.request z);
       inside = omega arith;
@@ -238,20 +232,5 @@ module _ (over : Bool) (new gather text : ℕ) (pdu : List ℕ) where
       lent = λ q. (ltb-false _ _ (large (ltb gather 8192) (ltb text 8192) a).0, ltb-false _ _ (large (ltb gather 8192) (ltb text 8192) a).1, r.lent q);
     }
 
--- What is done with what was found is the step of the rules.
-module _ (l : State) (pdu : List ℕ) (live new : ℕ) (ours g t : List ℕ) (f : Std.Result Found Refusal) (x : FoundAs l.over new (length g) (length t) pdu f) where
-  found-step : (h : Std.Result Found Refusal) → f ≡ h → found_step h (book_of l) pdu live new ours g t ≡ login_step (book_of l) pdu live new ours g t
-  found-step h e = ap (λ (y : Std.Result Found Refusal). found_step y (book_of l) pdu live new ours g t) (sym e) ∙ x.step (book_of l) live ours g t refl refl refl
-
-  pub found-refused : (why : Refusal) → f ≡ Err why
-      → Answers l (record { state = l; answer = Err why }) g t (login_step (book_of l) pdu live new ours g t)
-  found-refused why e = record { outcome = found-step (Err why) e; stays = sym (past _ _ _ _ (ap is_six (sym e) ∙ x.other) refl) }
-
-  pub found-login : (y : Found) (r : Step) (g' t' : List ℕ) → f ≡ Ok y
-      → Answers l r g' t' (request_step (book_of l) y.login (take (y.start + y.length - y.start) (drop y.start pdu)) live new ours g t)
-      → Answers l r g' t' (login_step (book_of l) pdu live new ours g t)
-  found-login y r g' t' e w = record {
-    outcome = w.outcome ∙ ap (λ (k : ℕ). request_step (book_of l) y.login (take k (drop y.start pdu)) live new ours g t) (add-sub_cancel_left y.start y.length)
-        ∙ found-step (Ok y) e;
-    stays = w.stays;
-  }
+-- what is gathered and comes fits
+pub ruleset step_fits = (status-fits)

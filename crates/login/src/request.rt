@@ -4,6 +4,7 @@ ghost use Rattle.login_book.specs.Login.{request_step, login_step};
 ghost use Rattle.login_types.specs.Agree.{book_of, Answers};
 ghost use Rattle.login.specs.Promises.{ReadAs, FoundAs};
 
+use keys::judge::Context;
 use login_answer::answer::{end, finish};
 use login_answer::checks::{MAX_TEXT, status_of};
 use login_answer::gathered::gathered_step;
@@ -14,7 +15,9 @@ use request_header::{LIMITS, Login, Request};
 use request_pdu::read;
 use text::slice::append;
 
-// A Login request with this data.
+// A Login request with this data. The login and the request stay two parameters, for the one is kept and the other came. C lends the gather
+// area and the text output apart, each of any length from 8192 on; an array would fix that length.
+#[tactic(auto, using(crate::proofs::Answers::step_fits), unfolding(login_book::specs::Login::request_step))]
 fn request_step(
     l: State,
     q: Login,
@@ -36,14 +39,16 @@ fn request_step(
         let n = append(gather, at, piece);
         return gathered_step(l, q, n);
     }
-    let leading = q.tsih == 0;
-    let j = judge_request(
-        l.settled, l.judged, q.csg, leading, ours, at, piece, gather, text,
-    );
+    let by = Context {
+        stage: q.csg,
+        leading: q.tsih == 0,
+        ours,
+    };
+    let j = judge_request(l.settled, l.judged, &by, at, piece, gather, text);
     finish(l, q, new, j)
 }
 
-// A Login, and where its data lies in the PDU.
+// A Login, and where its data lies in the PDU: places, as the PDU that was read has them.
 #[derive(Clone, Copy)]
 struct Found {
     login: Login,
@@ -52,6 +57,7 @@ struct Found {
 }
 
 // The Login that a PDU is read as: FIELD where it is none.
+#[tactic(auto, using(crate::proofs::Answers::read_zero))]
 fn read_login(pdu: &[u8], new: u16) -> Result<Found, Refusal>
     ensures { ReadAs new pdu.now result }
 {
@@ -88,8 +94,8 @@ fn find_login(
     read_login(pdu, new)
 }
 
-// One request of a login: `pdu` whole, the handle of the live session (0 for none), the new handle, our target name, the gather area
-// that this login uses, and the text output.
+// One request of a login: `pdu` whole, the handle of the live session (0 for none) and the new handle (0 is FIELD), both numbers as C and
+// `login_step` have them, our target name, the gather area that this login uses, and the text output.
 pub fn login_request(
     l: State,
     pdu: &[u8],

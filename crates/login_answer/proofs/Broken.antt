@@ -10,6 +10,7 @@ use Rattle.login_book.specs.Book.{in_stage, permitted, at_start, begun}
 use Rattle.login_book.specs.Login.{status_of, differs, strays}
 use Rattle.login_types.specs.Agree.{phase_of, book_of}
 use Rattle.login_answer.specs.Promises.{later_broken}
+use Rattle.std.proofs.lemmas.Bool.Decides.{nat_tests}
 use Rattle.login_types.specs.declared.state.State.{State}
 
 -- the rules of status 0x0200 as one
@@ -49,3 +50,6 @@ module _ (l : State) (q : Login) (n live : ℕ) (a : ltb 0 q.version_min ≡ fal
         let v = ltb 8192 (l.gathered + n) in
         past _ _ _ _ a (past _ _ _ _ b (any_of (differs (phase_of l) q) (q.continues && q.transit) (strays (phase_of l) q) u v 0x0200 0
         ∙ ap (λ (m : Bool). pick m 0x0200 0) (sym (phase-go l.begun l.stage l.isid l.tsih l.cid q u v))))
+
+-- the rules of a request, in their order
+pub ruleset checks = (nat_tests, status-version, status-handle, status-later)

@@ -12,11 +12,13 @@ use request_header::Login;
 pub const MAX_TEXT: usize = 8192;
 
 // The permitted steps from a stage: 0 to 1 or 3, and 1 to 3.
+const STEPS: [(u8, u8); 3] = [(0, 1), (0, 3), (1, 3)];
+
 #[tactic(auto, unfolding(login_book::specs::Book::permitted))]
 fn step_permitted(from: u8, to: u8) -> bool
     ensures { result ≡ permitted (in_stage from) to }
 {
-    matches!((from, to), (0, 1 | 3) | (1, 3))
+    STEPS.contains(&(from, to))
 }
 
 // ISID, TSIH or CID differ from those of the first request.
@@ -27,6 +29,7 @@ fn is_other(l: State, q: Login) -> bool
 }
 
 // The status of the first broken rule, if one is broken; n is the length of the request's data.
+#[tactic(auto, using(crate::proofs::Broken::checks))]
 pub fn status_of(l: State, q: Login, n: usize, live: u16) -> Result<(), u16>
     requires { n < 2 ^ 63 }
     ensures { Checked (status_of (book_of l) q n live) result }

@@ -1,5 +1,5 @@
 -- One turn of the loop that judges the pairs of a block: of what is left, b.
-use Rattle.std.proofs.Common.{◌≡◌, ℕ, zero, suc, ◌+◌, ◌≤◌, Bool, true, false, List, [], ◌∷◌, ◌++◌, length, take, drop, Ok, Err, refl, sym, ap, ◌∙◌, arith}
+use Rattle.std.proofs.Common.{◌≡◌, ℕ, zero, suc, ◌+◌, ◌≤◌, ◌<◌, Bool, true, false, List, [], ◌∷◌, ◌++◌, length, take, drop, Ok, Err, refl, sym, ap, ◌∙◌, arith}
 use Rattle.std.proofs.Common.{Result as Answer}
 use native.Mathlib.Nat.{zero-add}
 use mathlib.Core.Path.{subst}
@@ -8,12 +8,14 @@ use lib.Seq.{length-take-le}
 use borrow.Author.Tests.{eqb-true}
 use Rattle.text.specs.Text.{pick, before, has}
 use Rattle.text_block.specs.Block.{name_in, value_in, rest_of, pairs, formed, good_first, good_name, empty}
-use Rattle.text_block.proofs.Pairs.{rest_at}
+use Rattle.text_block.proofs.Pairs.{rest_at, name-short, good-whole, whole-ends, whole-inside, good-first, cut-name}
+use Rattle.key_table.proofs.Tables.{known-formed, place-few}
 use Rattle.key_replies.specs.Answer.{said_text}
 use Rattle.key_values.specs.declared.value.Judgement.{Judgement}
 use Rattle.login_book.specs.Keys.{Keys, after}
 use Rattle.login_book.specs.Block.{judge, judge_first, judge_block, Result, stopped}
-use Rattle.login_block.specs.Promises.{first_of, Walked, walked, walk, result_of, count_of, JudgedAs}
+use Rattle.login_block.specs.declared.block.Pair.{Pair}
+use Rattle.login_block.specs.Promises.{PairIs, first_of, Walked, walked, walk, result_of, count_of, JudgedAs}
 
 -- what `&b[e + 1..]` is, where the first pair ends at e
 pub rest-is : (b : List ℕ) (e : ℕ) → e ≡ length (name_in b) + 1 + length (value_in b) → drop (e + 1) b ≡ rest_of b
@@ -109,3 +111,24 @@ judged-as stage leading ours s a b old v t new count w h r e f = record {
   bytes = subst (λ (x : Walked). new ≡ x.text ++ drop (length x.text) old) w
       (sym (take-append-drop count new) ∙ ap (λ (x : List ℕ). take count new ++ x) (r ∙ ap (λ (n : ℕ). drop n old) (sym (length-take-le count new h))));
 }
+
+-- where a good pair's name and value end
+module _ (s : List ℕ) (p : Pair) (f : PairIs s p) where
+  pub ended : p.end ≡ length (name_in s) + 1 + length (value_in s)
+  ended = f.value ∙ whole-ends s (good-whole s f.right)
+
+  pub within : p.end < length s
+  within = omega (arith, ended, whole-inside s (good-whole s f.right))
+
+  pub in_order : p.eq + 1 ≤ p.end
+  in_order = omega (arith, f.name, ended)
+
+  pub reaches : p.eq + 1 ≤ length s
+  reaches = omega (arith, within, in_order)
+
+  pub short : p.eq + 1 ≤ 64
+  short = omega (arith, f.name, name-short s f.right)
+
+pub ruleset pair_ends = (within, in_order, reaches, short, length-take-le)
+
+pub ruleset pair_form = (good-first, cut-name, whole-inside, length-take-le, known-formed, place-few)

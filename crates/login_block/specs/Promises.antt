@@ -3,7 +3,7 @@ use Rattle.std.specs.Prelude as Std
 use Rattle.std.specs.Prelude.{ℕ, zero, suc, ◌+◌, ◌≤◌, ◌<◌, Bool, true, false, ◌≡◌, List, ◌++◌, length, take, drop, Option, Some, None, Ok, Err}
 use Rattle.text.specs.Text.{pick, Appended}
 use Rattle.text_block.specs.Block.{name_in, value_in, end_in, rest_of, good_first}
-use Rattle.key_table.specs.Table.{key_of}
+use Rattle.key_table.specs.Table.{key_of, place_of_found}
 use Rattle.key_replies.specs.Answer.{said_text}
 use Rattle.key_values.specs.declared.value.Judgement.{Judgement}
 use Rattle.login_book.specs.Keys.{Keys, after}
@@ -11,11 +11,10 @@ use Rattle.login_block.specs.declared.block.First.{First}
 use Rattle.login_block.specs.declared.block.Pair.{Pair}
 use Rattle.login_book.specs.Block.{Result, stopped, went, judge_first, judge_block}
 
--- a first pair of a good form: its key, and where its name and its value end
+-- a first pair of a good form: its key if its name is known, and where its name and its value end
 pub record PairIs (rest : List ℕ) (r : Pair) : Type 0 where
   pub right : good_first rest ≡ true
-  pub key : r.key ≡ key_of (name_in rest)
-  pub known : r.key ≤ 28
+  pub key : place_of_found r.key ≡ key_of (name_in rest)
   pub name : r.eq ≡ length (name_in rest)
   pub value : r.end ≡ end_in rest
 

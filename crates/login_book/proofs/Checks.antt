@@ -8,6 +8,7 @@ use Prim.Native.Nat.{ℕ, zero, suc, ◌+◌, ◌<◌, ◌≤◌}
 use native.Mathlib.Omega.{arith}
 use borrow.Author.Tests.{ltb-true, ltb-false, lt-ltb, eqb-true, eqb-false, eq-eqb, ne_eqb, not-true}
 use lib.ListN.{get_or}
+use Rattle.std.proofs.lemmas.Bool.{not_from_false, false_from_ne_true}
 use lib.Dec.{eqb}
 use Rattle.text.proofs.Laws.{&&-left, &&-right, false-true, past, here}
 use Rattle.request_header.specs.declared.Login.{Login}
@@ -99,10 +100,6 @@ all_go a b c h x y z = false-true (rw (x, y, z) at h)
 pub both_go : (a b : Bool) → a ≡ true → b ≡ true → (a && b) ≡ true
 both_go a b e f = rw (e, f) refl
 
-isnt : (a : Bool) → (a ≡ true → ⊥) → not a ≡ true
-isnt true h = absurd (h refl)
-isnt false h = refl
-
 -- ---- the two forms of the checks
 
 module _ (l : LoginBook) (q : Login) (n live : ℕ) where
@@ -113,9 +110,10 @@ module _ (l : LoginBook) (q : Login) (n live : ℕ) where
   breach-at k s (other_first stage isid tsih cid e h) =
       (ap (λ (x : Phase). differs x q) e ∙ some_go _ _ _ (λ w. h (eqb-true _ _ w.0, eqb-true _ _ w.1, eqb-true _ _ w.2)), refl, omega arith)
   breach-at k s (both_set h i) = (both_go _ _ h i, refl, omega arith)
-  breach-at k s (other_start e h) = (ap (λ (x : Phase). strays x q) e ∙ isnt _ (λ p. h (step_is start q.csg p)), refl, omega arith)
+  breach-at k s (other_start e h) =
+      (ap (λ (x : Phase). strays x q) e ∙ not_from_false _ (false_from_ne_true _ (λ p. h (step_is start q.csg p))), refl, omega arith)
   breach-at k s (other_stage stage isid tsih cid e h) = (ap (λ (x : Phase). strays x q) e ∙ ap not (ne_eqb _ _ h), refl, omega arith)
-  breach-at k s (no_step h i) = (both_go _ _ h (isnt _ (λ p. i (step_is (in_stage q.csg) q.nsg p))), refl, omega arith)
+  breach-at k s (no_step h i) = (both_go _ _ h (not_from_false _ (false_from_ne_true _ (λ p. i (step_is (in_stage q.csg) q.nsg p)))), refl, omega arith)
   breach-at k s (too_long h) = (lt-ltb _ _ h, refl, omega arith)
 
   differs-of : (x : Phase) → l.phase ≡ x → differs x q ≡ true → Breaks l q n live 2 0x0200

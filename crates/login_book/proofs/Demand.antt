@@ -12,7 +12,8 @@ use lib.ListN.{length}
 use lib.Dec.{eqb}
 use Rattle.request_header.specs.declared.Login.{Login}
 use Rattle.text.specs.Text.{pick, same}
-use Rattle.text.proofs.Laws.{&&-left, &&-right, &&-true, &&-false, false-true, past as skip, here, same-eq}
+use Rattle.std.proofs.Math.Bool.{and-false, and-true, or-false, or_assoc}
+use Rattle.text.proofs.Laws.{&&-left, &&-right, false-true, past as skip, here, same-eq}
 use Rattle.text_block.specs.Block.{Pair}
 use Rattle.key_table.specs.Table.{key_of, row_at}
 use Rattle.key_values.specs.Settle.{settling}
@@ -29,12 +30,8 @@ use Rattle.login_book.proofs.Promised.{offers-in, promised}
 
 -- ---- the login that is left is the one that the list says
 
-or-none : (a : Bool) → (a || false) ≡ a
-or-none true = refl
-or-none false = refl
-
 either-go : (over x n : Bool) → over ≡ n → x ≡ false → ((over && true) || x) ≡ n
-either-go over x n e f = rw (e, f) (or-none (n && true) ∙ &&-true n)
+either-go over x n e f = rw (e, f) (or-false (n && true) ∙ and-true n)
 
 same-book : (x y : LoginBook) → x.over ≡ y.over → x.phase ≡ y.phase → x.judged ≡ y.judged → x.keys ≡ y.keys → x.gathered ≡ y.gathered → x ≡ y
 same-book x y a b c d e i = record { over = a i; phase = b i; judged = c i; keys = d i; gathered = e i }
@@ -63,7 +60,7 @@ since-go (begun was isid tsih₁ cid) q stage transit csg nsg tsih text e =
     λ i. begun stage (a i) (b i) (c i)
 
 over-go : (t : Bool) (nsg : ℕ) (o : Bool) → o ≡ false → (t && eqb nsg 3) ≡ ((false || (t && eqb (pick t nsg 0) 3)) || o)
-over-go true nsg o e = rw e (sym (or-none (eqb nsg 3)))
+over-go true nsg o e = rw e (sym (or-false (eqb nsg 3)))
 over-go false nsg o e = sym e
 
 module _ (past : List Event) (c : Call) where
@@ -142,7 +139,7 @@ fits-full (in_stage stage) csg e f = ap (λ (x : ℕ). eqb x 3) (eqb-true csg st
 full-go : (a : Answer) (from : Stage) (over x : Bool) → stage_goes_on from a ≡ true → is_full from ≡ x → (accepted a ≡ true → x ≡ false)
     → (accepted a ≡ true → over ≡ names3 a)
     → is_full (stage_then from a) ≡ ((over && accepted a) || x)
-full-go (refused n s) from over x g f k o = f ∙ sym (ap (λ (y : Bool). y || x) (&&-false over))
+full-go (refused n s) from over x g f k o = f ∙ sym (ap (λ (y : Bool). y || x) (and-false over))
 full-go (answered stage true csg nsg tsih text) from over x g f k o =
     ap (λ (y : ℕ). eqb y 3) (eqb-true stage nsg (&&-right (permitted (in_stage csg) nsg) _ (&&-right (csg_fits from csg) _ g)))
     ∙ sym (either-go over x (eqb nsg 3) (o refl) (k refl))
@@ -161,15 +158,11 @@ record Good (past : List Event) : Type 0 where
 
 good_start : Good []
 unfolding none_came
-good_start = record { stage = refl; going = λ _. refl; values = λ n h. refl; came = λ n. sym (&&-false (not (eqb (key_of n) 28))) }
+good_start = record { stage = refl; going = λ _. refl; values = λ n h. refl; came = λ n. sym (and-false (not (eqb (key_of n) 28))) }
 
 value-append : (n : List ℕ) (x : ℕ) (ps qs : List Pair) → value_after n x (ps ++ qs) ≡ value_after n (value_after n x ps) qs
 value-append n x [] qs = refl
 value-append n x (p ∷ ps) qs = value-append n (pick (same n p.name) (taken x (Ok (settling (row_at (key_of n)) p.value))) x) ps qs
-
-or_assoc : (a b c : Bool) → ((a || b) || c) ≡ (a || (b || c))
-or_assoc true b c = refl
-or_assoc false b c = refl
 
 offered-append : (n : List ℕ) (ps qs : List Pair) → is_offered n (ps ++ qs) ≡ (is_offered n ps || is_offered n qs)
 offered-append n [] qs = refl
@@ -186,7 +179,7 @@ came-go false u v = refl
 
 over-named : (a : Answer) (l o : Bool) → l ≡ ((is_six a || names3 a) || o) → o ≡ false → accepted a ≡ true → l ≡ names3 a
 over-named (refused n s) l o e f g = false-true g
-over-named (answered stage transit csg nsg tsih text) l o e f g = e ∙ ap (λ (x : Bool). (transit && eqb nsg 3) || x) f ∙ or-none (transit && eqb nsg 3)
+over-named (answered stage transit csg nsg tsih text) l o e f g = e ∙ ap (λ (x : Bool). (transit && eqb nsg 3) || x) f ∙ or-false (transit && eqb nsg 3)
 
 or_right : (a b : Bool) → (a || b) ≡ false → b ≡ false
 or_right true b e = false-true (sym e)
@@ -246,7 +239,7 @@ once-over b c o =
     let r : (accepted (step_of b c).answer ≡ false) × (is_six (step_of b c).answer ≡ false) =
     ⊎_elim (λ e. (ap accepted e, ap is_six e)) (λ e. (ap accepted e, ap is_six e)) (answer-over b c o (decided b c)) in
     let o₁ = (step_of b c).book.over in
-    (ap (λ (x : Bool). o₁ && x) r.0 ∙ &&-false o₁, ap (λ (x : LoginBook). x.over) (w.login_stays r.0 r.1) ∙ o)
+    (ap (λ (x : Bool). o₁ && x) r.0 ∙ and-false o₁, ap (λ (x : LoginBook). x.over) (w.login_stays r.0 r.1) ∙ o)
 
 none_over : (b : LoginBook) (cs : List Call) → b.over ≡ true → entries (events_of b cs) ≡ 0
 none_over b [] o = refl

@@ -10,7 +10,8 @@ use lib.ListN.{length, length-append}
 use lib.Dec.{eqb}
 use Rattle.request_header.specs.declared.Login.{Login}
 use Rattle.text.specs.Text.{pick}
-use Rattle.text.proofs.Laws.{&&-true, &&-false, false-true, past, here}
+use Rattle.std.proofs.Math.Bool.{and-false, and-true}
+use Rattle.text.proofs.Laws.{false-true, past, here}
 use Rattle.text_block.specs.Block.{Pair, pairs}
 use Rattle.key_table.specs.Table.{key_of}
 use Rattle.login_book.specs.Book.{Stage, start, in_stage, permitted, Phase, at_start, begun, stage_of, LoginBook}
@@ -22,9 +23,6 @@ use Rattle.login_book.proofs.Values.{and_none, values-after, came-after, replies
 use Rattle.login_book.proofs.Checks.{both_go, check-kept}
 use Rattle.login_book.proofs.Rules.{refusal, area_then, by-gathering, by-judging, by-refusal, keys_then, text_then, Decided, refuses, accepts, decided}
 
-true-false : {A : Type 0} → true ≡ false → A
-true-false e = false-true (sym e)
-
 -- ---- small laws
 
 same-pick : {A B : Type 0} (f : A → B) (z : Bool) (x y : A) → f x ≡ f y → f (pick z x y) ≡ f y
@@ -33,7 +31,7 @@ same-pick f false x y e = refl
 
 ended-go : (z : Bool) (b : LoginBook) → b.over ≡ false → (pick z (ended b) b).over ≡ (z || ((pick z (ended b) b).over && false))
 ended-go true b h = refl
-ended-go false b h = h ∙ sym (&&-false b.over)
+ended-go false b h = h ∙ sym (and-false b.over)
 
 not-both : (a b : Bool) → (a && b) ≡ false → a ≡ true → b ≡ false
 not-both true b e h = e
@@ -41,7 +39,7 @@ not-both false b e h = false-true h
 
 step-go : (a b : Bool) → (a && not b) ≡ false → a ≡ true → b ≡ true
 step-go true true e h = refl
-step-go true false e h = true-false e
+step-go true false e h = false-true (sym e)
 step-go false b e h = false-true h
 
 fits-go : (x : Phase) (q : Login) → strays x q ≡ false → csg_fits (stage_of x) q.csg ≡ true
@@ -96,7 +94,7 @@ module _ (b : LoginBook) (c : Call) where
       let x : n₁ ≡ n = cc in
       let y : s₁ ≡ s = cc in
       subst (λ (m : ℕ). Refuses b c m s) x (subst (λ (m : ℕ). Refuses b c n₁ m) y r)
-  refuses-of (accepts a) n s e = true-false (sym (accepted-by a) ∙ ap accepted e)
+  refuses-of (accepts a) n s e = false-true (sym (ap accepted e) ∙ accepted-by a)
 
   answers-both : (o : Outcome) → step_of b c ≡ o → (accepted o.answer ≡ true) ↔ Accepts b c
   answers-both o e = subst (λ (x : Outcome). (accepted x.answer ≡ true) ↔ Accepts b c) e (accepts-of (decided b c), accepted-by)
@@ -111,7 +109,7 @@ module _ (b : LoginBook) (c : Call) where
     fields = λ q d x. tt;
     gathers = λ q d x a. false-true a;
     refusals = refusals-both _ e;
-    full_feature = &&-false (pick (eqb n 6) (ended b) b).over ∙ sym (&&-false (asks3 (stage_of b.phase) (read_as c.pdu)));
+    full_feature = and-false (pick (eqb n 6) (ended b) b).over ∙ sym (and-false (asks3 (stage_of b.phase) (read_as c.pdu)));
     step = refl;
     stage = same-pick (λ (x : LoginBook). stage_of x.phase) (eqb n 6) (ended b) b refl;
     bytes_stay = λ _. (refl, refl);
@@ -169,11 +167,11 @@ module _ (b : LoginBook) (c : Call) where
           fields = λ q₁ d₁ y. the-login (λ q₂ d₂. AnswerFields b c q₂ d₂ q.csg false q.csg 0 q.tsih []) q q₁ d d₁ (sym x ∙ y) (fields-gathered h);
           gathers = λ q₁ d₁ y _. the-login (λ q₂ d₂. Gathers b c q₂ d₂ o.gather) q q₁ d d₁ (sym x ∙ y) (area-gathered h);
           refusals = refusals-both o e;
-          full_feature = sym (&&-false (asks3 (stage_of b.phase) (read_as c.pdu)));
+          full_feature = sym (and-false (asks3 (stage_of b.phase) (read_as c.pdu)));
           step = rw fitting (eq-eqb q.csg q.csg refl);
           stage = refl;
-          bytes_stay = λ y. true-false y;
-          login_stays = λ y _. true-false y;
+          bytes_stay = λ y. false-true (sym y);
+          login_stays = λ y _. false-true (sym y);
           ended_by = λ _. refl;
           text_front = refl;
           text_short = omega arith;
@@ -254,9 +252,9 @@ module _ (b : LoginBook) (c : Call) where
           full_feature = full-judged;
           step = on_go q.transit (csg_fits (stage_of b.phase) q.csg) q.csg q.nsg (fitting q d passed) (permits q d passed);
           stage = refl;
-          bytes_stay = λ y. true-false y;
-          login_stays = λ y _. true-false y;
-          ended_by = λ _. sym (&&-true (q.transit && eqb q.nsg 3));
+          bytes_stay = λ y. false-true (sym y);
+          login_stays = λ y _. false-true (sym y);
+          ended_by = λ _. sym (and-true (q.transit && eqb q.nsg 3));
           text_front = refl;
           text_short = length-judged;
           values = values-judged;

@@ -14,7 +14,8 @@ use lib.Dec.{eqb, ltb}
 
 -- A refusal of reading has no status: its number is not 6.
 reading-go : (b1 b2 b3 b4 b5 : Bool) (p : Pdu)
-    → pick b1 (Read.refused 4) (pick b2 (Read.refused 2) (pick b3 (Read.refused 5) (pick b4 (Read.refused 4) (pick b5 (Read.got p) (Read.refused 3))))) ≡ Read.refused 6 → ⊥
+    → pick b1 (Read.refused 4) (pick b2 (Read.refused 2) (pick b3 (Read.refused 5) (pick b4 (Read.refused 4) (pick b5 (Read.got p) (Read.refused 3)))))
+    ≡ Read.refused 6 → ⊥
 reading-go true b2 b3 b4 b5 p e = let z : ◌≡◌ {A = ℕ} 4 6 = cc in omega arith
 reading-go false true b3 b4 b5 p e = let z : ◌≡◌ {A = ℕ} 2 6 = cc in omega arith
 reading-go false false true b4 b5 p e = let z : ◌≡◌ {A = ℕ} 5 6 = cc in omega arith

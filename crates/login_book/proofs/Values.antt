@@ -109,7 +109,8 @@ came-go false true s i n j p q h =
     known-came s i n j h ∙ ap (λ (x : Bool). x || s.came n) q ∙ (rw k refl)
 came-go false false s i n j p q h = known-came s i n j h ∙ ap (λ (x : Bool). x || s.came n) q ∙ and_none (not (eqb (key_of n) 28)) (s.came n)
 
-after-came : (s : Keys) (i n : List ℕ) (j : Std.Result Judgement ℕ) → is_refused j ≡ false → (after s i j).came n ≡ ((not (eqb (key_of n) 28) && same n i) || s.came n)
+after-came : (s : Keys) (i n : List ℕ) (j : Std.Result Judgement ℕ) → is_refused j ≡ false
+    → (after s i j).came n ≡ ((not (eqb (key_of n) 28) && same n i) || s.came n)
 unfolding after
 after-came s i n j h = came-go (eqb (key_of i) 28) (same n i) s i n j refl refl h
 
@@ -175,7 +176,8 @@ module _ (stage : ℕ) (leading : Bool) (ours : List ℕ) where
     refused = w.refused;
   }
 
-  stop-go : (p : Pair) (ps : List Pair) (s : Keys) (j : Std.Result Judgement ℕ) (b : Bool) → judge_pair stage leading ours s p ≡ j → (not (is_refused j) && b) ≡ false
+  stop-go : (p : Pair) (ps : List Pair) (s : Keys) (j : Std.Result Judgement ℕ) (b : Bool) → judge_pair stage leading ours s p ≡ j
+      → (not (is_refused j) && b) ≡ false
       → (b ≡ false → Stops (after s p.name (judge_pair stage leading ours s p)) ps) → Stops s (p ∷ ps)
   stop-go p ps s (Err m) b q e ih = record { before = []; pair = p; later = ps; status = m; split = refl; gone = refl; refused = q }
   stop-go p ps s (Ok x) b q e ih = stop-later p ps s (ap is_refused q) (ih e)

@@ -5,7 +5,8 @@ ghost use Rattle.std.specs.Prelude.{◌≡◌};
 ghost use Rattle.response_words.specs.ResponseWords.{login_response_of, logout_response_of};
 
 use response_header::{LoginResponse, LogoutResponse, Response};
-use response_words::{Unfit, WIDE_8, WIDE_16, WIDE_32};
+use response_words::{Unfit, WIDE_32};
+use words::{WIDE_8, WIDE_16};
 
 pub fn login_response(w: &[u64; 10]) -> Result<Response, Unfit>
     ensures { result ≡ login_response_of w.now }

@@ -1,4 +1,5 @@
 -- What the code's verdict on a block says, of the text output.
+use Rattle.login_book.proofs.Values.{start-length}
 use Rattle.std.specs.Prelude as Std
 use Rattle.std.specs.Prelude.{Ok, Err}
 use mathlib.Core.Path.{◌≡◌, refl, ap}
@@ -12,16 +13,11 @@ use Rattle.key_table.specs.declared.parameters.Settled.{Settled}
 use Rattle.login_book.specs.Keys.{Keys, named}
 use Rattle.login_types.specs.Agree.{keys_of}
 use Rattle.login_book.specs.Login.{start_text}
-use Rattle.login_text.specs.Promises.{both_seen, with_names, block_result, verdict_after, text_after, text_of}
+use Rattle.login_text.specs.Promises.{with_names, block_result, verdict_after, text_after, text_of}
 use Rattle.login_text.specs.Promises.{settled_after, Written}
 use Rattle.login_book.specs.Block.{Result, stopped, went}
 use Rattle.login_block.specs.Promises.{result_of, count_of, JudgedAs}
 use Rattle.text.specs.Text.{pick}
-
--- The names came that the keys say came.
-pub names_at : (s : Settled) → both_seen s.seen ≡ named (keys_of s)
-unfolding named
-names_at s = refl
 
 -- What the verdict v on a judged block says with the keys s, of the text output.
 record Shown (r : Result) (s : Keys) (v : Std.Result ℕ ℕ) (old new : List ℕ) : Type 0 where
@@ -64,3 +60,6 @@ written-by judged stage leading ours s a b old t u v w o x y m e j q f g h =
     let k = rw e at j in
     let z = rw k.result at (shown-go judged (keys_of t) v o x k.few) in
     rw (h, f, g, q) (written-go _ s t (verdict_after (judged || named (keys_of t)) v) x _ z)
+
+-- the portal group is short
+pub ruleset start_fits = (start-length)

@@ -1,9 +1,8 @@
 -- What the code holds of a judged block and of the text output, for its contracts. This follows the code; the rules are in
 -- login_book's Login.
 use Rattle.std.specs.Prelude as Std
-use Rattle.std.specs.Prelude.{ℕ, ◌≤◌, Bool, false, not, ◌&&◌, ◌≡◌, List, ◌++◌, length, get_or, take, drop, Ok, Err}
-use Rattle.text.specs.Text.{pick, bytes}
-use Rattle.key_table.specs.Table.{key_of}
+use Rattle.std.specs.Prelude.{ℕ, ◌≤◌, Bool, not, ◌&&◌, ◌≡◌, List, ◌++◌, length, take, drop, Ok, Err}
+use Rattle.text.specs.Text.{pick}
 use Rattle.key_table.specs.declared.parameters.Settled.{Settled}
 use Rattle.login_book.specs.Keys.{Keys, named}
 use Rattle.login_types.specs.Agree.{keys_of}
@@ -11,10 +10,6 @@ use Rattle.login_book.specs.Login.{start_text}
 use Rattle.login_book.specs.Block.{Result, stopped, went, judge_block}
 use Rattle.login_block.specs.Promises.{result_of, count_of}
 use Rattle.login_block.specs.declared.block.Judged.{Judged}
-
--- both names came
-abbrev pub both_seen : List Bool → Bool
-both_seen seen = get_or seen (key_of (bytes "InitiatorName")) false && get_or seen (key_of (bytes "TargetName")) false
 
 -- if the first judged block lacks either name it is 0x0207, after its pairs
 abbrev pub with_names : Bool → Result → Result

@@ -6,7 +6,7 @@ use mathlib.Core.List.{List}
 use Prim.Native.Nat.{ℕ, zero, suc, ◌<◌, ◌≤◌}
 use native.Mathlib.Omega.{arith}
 use borrow.Author.Tests.{eqb-false}
-use lib.ListN.{length, get_or, set, replicate, length-set, get_or-map}
+use lib.ListN.{length, get_or, set, replicate, get_or-map}
 use lib.Seq.{get_or-set_same, get_or-set_other}
 use lib.Dec.{eqb}
 use Rattle.text.specs.Text.{pick, same, bytes, listed}
@@ -108,19 +108,6 @@ settles-go false came stage leading ours k v e h s =
     in_table k (omega arith) (settles-kind (kind_at k) k ours v d)
 
 -- ---- after a judged pair
-
-known-long : (s : Settled) (k : ℕ) (j : Result Judgement ℕ) → length (Code.after_key s k j).seen ≡ length s.seen
-known-long s k (Err x) = refl
-known-long s k (Ok (J.Said r)) = length-set s.seen k true
-known-long s k (Ok (J.Settles x r)) = length-set s.seen k true
-
-long-go : (t : Bool) (s : Settled) (k : ℕ) (j : Result Judgement ℕ) → length (pick t s (Code.after_key s k j)).seen ≡ length s.seen
-long-go true s k j = refl
-long-go false s k j = known-long s k j
-
-pub after-long : (s : Settled) (k : ℕ) (j : Result Judgement ℕ) → length (Code.after s k j).seen ≡ length s.seen
-unfolding Code.after
-after-long s k j = long-go (eqb k 28) s k j
 
 module _ (s : Settled) (seen : length s.seen ≡ 28) (values : length s.parameters.values ≡ 12) (n : List ℕ) where
   keys-known : (j : Result Judgement ℕ) → key_of n < 28 → (settles j ≡ true → key_of n < 12) → keys_of (Code.after_key s (key_of n) j) ≡ after_known (keys_of s) n j

@@ -2,17 +2,16 @@
 use crate::pdu::first;
 use key_table::parameters::Parameters;
 use login_types::state::Accepted;
-use print::{put, put_refused};
-use refusal::{Refusal, number_of, status_of};
+use print::put;
+use refusal::Refusal;
 use std::io;
 use std::io::Write;
 
+// A refused login has a status too.
 fn put_refusal<W: Write>(to: &mut W, f: Refusal) -> io::Result<()> {
-    let status = status_of(f);
-    if status == 0 {
-        put_refused(to, f)
-    } else {
-        writeln!(to, "refused {} 0x{status:04x}", number_of(f))
+    match f {
+        Refusal::Login(status) => writeln!(to, "{f} 0x{status:04x}"),
+        _ => writeln!(to, "{f}"),
     }
 }
 

@@ -31,10 +31,12 @@ pub(crate) fn least(a: u64, b: usize) -> usize
     b.min(a as usize)
 }
 
+// A word as a field of one byte: a wider one is cut to it, and not refused as TryFrom would.
 fn low(v: u64) -> u8 {
     (v % 256) as u8
 }
 
+// The same, of two bytes.
 pub(crate) fn short(v: u64) -> u16 {
     (v % 65536) as u16
 }
@@ -54,7 +56,7 @@ fn first_fields(n: [u64; 11], data: u16) -> u64 {
 fn put_header(pdu: &mut [u8; 9000], n: [u64; 11], data: u16) {
     put(pdu, 0, first_fields(n, data));
     put(pdu, 8, six_two(n[3], short(n[4])));
-    put(pdu, 16, n[5] % 0x1_0000 * 0x1_0000);
+    put(pdu, 16, short(n[5]) as u64 * 0x1_0000);
 }
 
 // The text of a PDU, with zero bytes for |; gives its length.

@@ -7,13 +7,9 @@ ghost use Rattle.login_words.specs.Login.{login_words, login_fits, login_of, wor
 use key_table::parameters::{Parameters, Settled};
 use login_types::state::{Accepted, State};
 use refusal::{Refusal, number_of, status_of};
+use words::{WIDE_8, WIDE_16, flag};
 
-// One more than the greatest value of a field of 8 bits, and of 16.
-const WIDE_8: u64 = 0x100;
-
-const WIDE_16: u64 = 0x1_0000;
-
-// Whether the numbers are those of a login: none is too wide for its field.
+// Whether the numbers are those of a login: none is too wide for its field. One test of all and then casts, as in `response_words`.
 fn numbers_fit(n: &[u64; 8]) -> bool
     ensures { result ≡ login_fits n.now }
 {
@@ -21,7 +17,8 @@ fn numbers_fit(n: &[u64; 8]) -> bool
         & (((n[5] < WIDE_16) & (n[6] < WIDE_16)) & (n[7] < WIDE_16))
 }
 
-// The login that the numbers, values and keys are; numbers that are those of none stand for a login that is over.
+// The login that the numbers, values and keys are; numbers that are those of none stand for a login that is over. They travel apart, since
+// they are three arrays of C's `drawbevel_login`.
 #[tactic(auto, using(crate::proofs::Kept::fitting), unfolding(crate::specs::Login::login_of))]
 pub fn load(n: &[u64; 8], values: &[u32; 12], seen: &[bool; 28]) -> State
     ensures { result ≡ login_of (login_words n.now values.now seen.now) }
@@ -43,6 +40,7 @@ pub fn load(n: &[u64; 8], values: &[u32; 12], seen: &[bool; 28]) -> State
             settled,
         };
     }
+    // Written out: `State::fresh` would make settled values only for these to take their place.
     State {
         over: true,
         begun: false,
@@ -66,9 +64,9 @@ pub fn store(n: &mut [u64; 8], values: &mut [u32; 12], seen: &mut [bool; 28], l:
     *values = in_force;
     *seen = came;
     *n = [
-        u64::from(l.over),
-        u64::from(l.begun),
-        u64::from(l.judged),
+        flag(l.over),
+        flag(l.begun),
+        flag(l.judged),
         l.stage as u64,
         l.isid,
         l.tsih as u64,
@@ -101,7 +99,7 @@ pub fn changes_nothing(a: Result<Accepted, Refusal>) -> bool
     ensures { result ≡ changes_nothing a }
 {
     match a {
-        Err(f) => number_of(f) != 6,
-        Ok(_) => false,
+        Ok(_) | Err(Refusal::Login(_)) => false,
+        Err(_) => true,
     }
 }

@@ -8,8 +8,7 @@ ghost use Rattle.std.specs.Int.Bits.{bit_or};
 ghost use Rattle.place_map.specs.Bit.{conns, each_without};
 ghost use Rattle.field.specs.Field.{pick};
 
-// The maps of origins: one for each connection.
-const CONNS: usize = 4;
+use window::CONNS;
 
 // The map of a connection; one that there is not has no command.
 pub fn of(origins: [u64; CONNS], conn: u32) -> u64
@@ -24,14 +23,15 @@ pub fn of(origins: [u64; CONNS], conn: u32) -> u64
     }
 }
 
-// A map where on is set, else that of no place.
+// A map where on is set, else that of no place. `response_layout::weight` is a byte's, and of headers.
 fn map_if(on: bool, map: u64) -> u64
     ensures { result ≡ pick on map 0 }
 {
     if on { map } else { 0 }
 }
 
-// The maps with the places of another in a connection's.
+// The maps with the places of another in a connection's. A number and no type: see `window::CONNECTIONS`.
+#[tactic(auto, using(crate::proofs::Joined::joined))]
 pub fn with_origin(origins: [u64; CONNS], conn: u32, map: u64) -> [u64; CONNS]
     requires { conn < conns }
     ensures { result ≡ set origins conn (bit_or (get_or origins conn 0) map) }

@@ -1,6 +1,12 @@
-// A request read into words, from the bytes of its header. Each kind is judged and written in its own branch.
-// Refusals stay numbers here: they are what the C interface answers (3 is FIELD).
-#![tactic(auto)]
+// A request read into words, from the bytes of its header. Each kind is judged and written in its own branch, and not through `request_kinds`, whose
+// enum goes through memory (docs/DECISIONS.md). Refusals stay numbers here: what `kind_words` and `read_words` give beside both arrays is C's answer, a number.
+#![tactic(auto, using(request_words::proofs::Reading::header_words),
+// What reading answers of a kind.
+unfolding(request_words::specs::RequestWords::kind_words, request_words::specs::RequestWords::read_words,
+// The words of a PDU.
+request_words::specs::RequestWords::common_words, request_words::specs::RequestWords::own_words, request_words::specs::RequestWords::opcode_word,
+// And the PDU of a header.
+request_header::specs::Request::pdu_of, request_header::specs::Request::request_of))]
 
 ghost use Rattle.std.specs.Prelude.{◌≡◌};
 ghost use Rattle.request_header.specs.declared.Limits.{Limits};
@@ -12,13 +18,13 @@ use refusal::number_of;
 use request_header::Limits;
 use request_refusal::header_of;
 use request_rules::{login_ok, logout_ok, nop_out_ok, scsi_command_ok, task_management_ok};
-use request_words::{bit_word, data_out, immediate, put_common, snack};
+use request_words::{FIELD, bit_word, data_out, immediate, put_common, snack};
 
 fn nop_out(s: &[u8; HEADER_BYTES], common: &mut [u64; 8], own: &mut [u64; 9]) -> u32
     ensures { (m : Limits) → ◌≡◌ {A = ReadWords} (record { answer = result; common = common.new; own = own.new }) (kind_words m 0x00 s.now common.old own.old) }
 {
     if !nop_out_ok(s) {
-        return 3;
+        return FIELD;
     }
     put_common(s, 0x00, immediate(s), be(s, 24, 4), be(s, 8, 8), common);
     *own = [be(s, 20, 4), 0, 0, 0, 0, 0, 0, 0, 0];
@@ -29,7 +35,7 @@ fn scsi_command(s: &[u8; HEADER_BYTES], common: &mut [u64; 8], own: &mut [u64; 9
     ensures { (m : Limits) → ◌≡◌ {A = ReadWords} (record { answer = result; common = common.new; own = own.new }) (kind_words m 0x01 s.now common.old own.old) }
 {
     if !scsi_command_ok(s) {
-        return 3;
+        return FIELD;
     }
     put_common(s, 0x01, immediate(s), be(s, 24, 4), be(s, 8, 8), common);
     let b = be(s, 1, 1);
@@ -56,7 +62,7 @@ fn task_management(
     ensures { ◌≡◌ {A = ReadWords} (record { answer = result; common = common.new; own = own.new }) (kind_words limits 0x02 s.now common.old own.old) }
 {
     if !task_management_ok(s, limits) {
-        return 3;
+        return FIELD;
     }
     put_common(s, 0x02, immediate(s), be(s, 24, 4), be(s, 8, 8), common);
     *own = [
@@ -77,7 +83,7 @@ fn login(s: &[u8; HEADER_BYTES], common: &mut [u64; 8], own: &mut [u64; 9]) -> u
     ensures { (m : Limits) → ◌≡◌ {A = ReadWords} (record { answer = result; common = common.new; own = own.new }) (kind_words m 0x03 s.now common.old own.old) }
 {
     if !login_ok(s) {
-        return 3;
+        return FIELD;
     }
     put_common(s, 0x03, immediate(s), be(s, 24, 4), 0, common);
     let b = be(s, 1, 1);
@@ -99,14 +105,16 @@ fn logout(s: &[u8; HEADER_BYTES], common: &mut [u64; 8], own: &mut [u64; 9]) -> 
     ensures { (m : Limits) → ◌≡◌ {A = ReadWords} (record { answer = result; common = common.new; own = own.new }) (kind_words m 0x06 s.now common.old own.old) }
 {
     if !logout_ok(s) {
-        return 3;
+        return FIELD;
     }
     put_common(s, 0x06, immediate(s), be(s, 24, 4), 0, common);
     *own = [be(s, 1, 1) % 128, be(s, 20, 2), 0, 0, 0, 0, 0, 0, 0];
     0
 }
 
-// Reads a PDU into words: 0, or the number of the first refusal, which leaves both arrays.
+// Reads a PDU into words: 0, or the number of the first refusal, which leaves both arrays. The opcode stays in a match: each kind has its own function,
+// task management's with the limits too; the compiler makes a table of jumps of it, and one of functions would be no plainer.
+#[tactic(auto, using(request_words::proofs::Reading::kind_decides, request_words::proofs::Reading::refused_words))]
 pub fn read(input: &[u8], limits: Limits, common: &mut [u64; 8], own: &mut [u64; 9]) -> u32
     ensures { ◌≡◌ {A = ReadWords} (record { answer = result; common = common.new; own = own.new }) (read_words (read_pdu limits input.now) common.old own.old) }
 {

@@ -5,10 +5,11 @@
 ghost use Rattle.std.specs.Prelude.{◌≡◌, ◌-◌, ◌^◌, ◌<◌, ◌≤◌};
 ghost use Rattle.place_map.specs.Bit.{bits, bit_at, Gapless};
 
-// The bits of a map.
+// The bits of a map: not `window::PLACES`, since window stands above.
 const BITS: u32 = 64;
 
-// Bit d of a map.
+// Bit d of a map. A number, as its definition `bit_at` is. The distance stays a number with a `requires`, here and in `only`, `window::origin_at` and
+// `window_offer`'s `entered`: an offer and a holder have tested it once, and a type of it would be made by a second test.
 #[tactic(auto, unfolding(crate::specs::Bit::bit_at))]
 pub fn bit(map: u64, d: u32) -> u64
     requires { d < bits }

@@ -1,4 +1,4 @@
-// What the programs share: a buffer is filled from the input and searched for the end of a line or of a word, and a refusal is written.
+// What the programs share: a buffer is filled from the input and searched for the end of a line or of a word, and bytes are written.
 //
 // A program lends its writer to each function that writes. None of them hides a read or a write that failed.
 #![tactic(auto)]
@@ -6,7 +6,6 @@
 ghost use Rattle.std.specs.Prelude.{◌≡◌, ◌+◌, ◌≤◌, min, length, IfOk, OnOk};
 ghost use Rattle.std.specs.Io.KnownBytes.{Appends};
 
-use refusal::{Refusal, number_of};
 use std::io;
 use std::io::{Read, Write};
 
@@ -32,7 +31,8 @@ pub fn put<W: Write>(to: &mut W, text: &[u8]) -> io::Result<()>
     to.write_all(text)
 }
 
-// The place of the first such byte from a place on, or the end of the text.
+// The place of the first such byte from a place on, or the end of the text. Not by `text::slice::find`: print stands on no crate of the
+// library. A place and no Option, as there.
 pub fn find(text: &[u8], from: usize, byte: u8) -> usize
     requires { from ≤ length text.now }
     ensures { (from ≤ result) × (result ≤ length text.now) }
@@ -49,8 +49,4 @@ pub fn past(text: &[u8], at: usize) -> usize
     ensures { result ≡ min (at + 1) (length text.now) }
 {
     if at < text.len() { at + 1 } else { at }
-}
-
-pub fn put_refused<W: Write>(to: &mut W, f: Refusal) -> io::Result<()> {
-    writeln!(to, "refused {}", number_of(f))
 }

@@ -7,7 +7,7 @@ ghost use Rattle.request_header.specs.Request.{length_answer_of};
 ghost use Rattle.session_questions.specs.Answer.{next_answer, holder_answer};
 ghost use Rattle.answer_words.specs.Answer.{answer_words, packed};
 
-use answer_words::{DONE, FREE, HELD, OK, VOID, origin_word, pack, pack_refused};
+use answer_words::{DONE, FREE, HELD, OK, VOID, origin_word, pack_value};
 use refusal::Refusal;
 use session_questions::{HolderAnswer, WindowNumbers};
 
@@ -20,10 +20,7 @@ pub fn numbers(a: WindowNumbers) -> [u32; 4]
 pub fn next(a: Result<u32, Refusal>) -> u64
     ensures { packed result ≡ answer_words (next_answer a) }
 {
-    match a {
-        Ok(n) => pack(DONE, n),
-        Err(f) => pack_refused(f),
-    }
+    pack_value(DONE, a)
 }
 
 pub fn holder(a: HolderAnswer) -> [u32; 4]
@@ -40,8 +37,5 @@ pub fn holder(a: HolderAnswer) -> [u32; 4]
 pub fn length(a: Result<u32, Refusal>) -> u64
     ensures { packed result ≡ answer_words (length_reply (length_answer_of a)) }
 {
-    match a {
-        Ok(n) => pack(OK, n),
-        Err(f) => pack_refused(f),
-    }
+    pack_value(OK, a)
 }

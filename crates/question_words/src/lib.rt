@@ -9,6 +9,7 @@ ghost use Rattle.answer_words.specs.Answer.{packed};
 ghost use Rattle.call_words.specs.Session.{SessionWords, session_words, Said};
 
 use session_words::load;
+use window::WINDOW_SLOTS;
 
 // ExpCmdSN and MaxCmdSN.
 pub fn window(n: &[u32; 15], m: &[u64; 6], answer: &mut [u32; 4])
@@ -37,7 +38,13 @@ pub fn next(n: &[u32; 15], m: &[u64; 6], conn: u32) -> u64
 }
 
 // Who holds a number.
-pub fn holder(n: &[u32; 15], m: &[u64; 6], tickets: &[u32; 64], number: u32, answer: &mut [u32; 4])
+pub fn holder(
+    n: &[u32; 15],
+    m: &[u64; 6],
+    tickets: &[u32; WINDOW_SLOTS],
+    number: u32,
+    answer: &mut [u32; 4],
+)
     ensures { (h : List ℕ) (ss : Statuses)
         → Said (Call.ask (Question.holder number))
         (session_words n.now m.now (commands h tickets.now) ss)

@@ -1,5 +1,6 @@
 -- The answer number of each refusal, and the status of a refused login.
-use Rattle.std.specs.Prelude.{ℕ, Result, Ok, Err}
+use Rattle.std.specs.Prelude.{ℕ, List, ◌++◌, Result, Ok, Err, codes}
+use Rattle.std.specs.Fmt.{decimal}
 use Rattle.refusal.specs.declared.Refusal.{Refusal}
 use Rattle.refusal.specs.declared.Refusal.TheVariants as F
 
@@ -37,3 +38,7 @@ status F.Open = 0
 status F.Full = 0
 status F.Stale = 0
 status F.Snack = 0
+
+-- what the programs write of a refusal
+abbrev pub written_out : Refusal → List ℕ
+written_out f = codes "refused " ++ decimal (number f)

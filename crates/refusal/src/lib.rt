@@ -1,8 +1,10 @@
 // The twelve refusals, each with its answer number.
 #![tactic(auto)]
 
-ghost use Rattle.std.specs.Prelude.{◌≡◌};
-ghost use Rattle.refusal.specs.Refusal.{number, status};
+ghost use Rattle.std.specs.Prelude.{◌≡◌, Some};
+ghost use Rattle.refusal.specs.Refusal.{number, status, written_out};
+
+use std::fmt;
 
 #[derive(Clone, Copy, Debug, PartialEq, Eq)]
 pub enum Refusal {
@@ -16,7 +18,8 @@ pub enum Refusal {
     Length,
     // The data segment is longer than the limit.
     TooLong,
-    // A rule of the login phase refuses, with this Status-Class and Status-Detail.
+    // A rule of the login phase refuses, with this Status-Class and Status-Detail: the RFC's number and no enum, for the rules name
+    // statuses so (`keys/specs/Judge`, `login_book/specs/Login`), and C's answer has it.
     Login(u16),
     // There is no connection of this number.
     NoConn,
@@ -32,7 +35,7 @@ pub enum Refusal {
     Snack,
 }
 
-// The answer number of a refusal.
+// The answer number of a refusal. A match: a refused login carries its status, so the enum can't be cast.
 pub fn number_of(refusal: Refusal) -> u8
     ensures { result ≡ number refusal }
 {
@@ -52,12 +55,20 @@ pub fn number_of(refusal: Refusal) -> u8
     }
 }
 
-// The status that comes with a refused login; no other refusal has one, and 0 stands there.
+// The status that comes with a refused login; no other refusal has one, and 0 stands there, as `status` and C's answer have it.
 pub fn status_of(refusal: Refusal) -> u16
     ensures { result ≡ status refusal }
 {
     match refusal {
         Refusal::Login(s) => s,
         _ => 0,
+    }
+}
+
+impl fmt::Display for Refusal {
+    ghost output = { λ refusal. Some (written_out refusal) };
+
+    fn fmt<W: fmt::Write>(&self, f: &mut fmt::Formatter<W>) -> fmt::Result {
+        write!(f, "refused {}", number_of(*self))
     }
 }

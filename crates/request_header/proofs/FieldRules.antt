@@ -9,13 +9,10 @@ use borrow.Author.Tests.{ltb-false, not-false, eqb-true, eqb-false, lt-leb, eq-e
 use lib.Dec.{eqb, leb, ltb}
 use lib.ListN.{length}
 use Rattle.field.specs.Field.{be_at, byte, bit, pick, none}
-use Rattle.refusal.specs.Refusal.{number}
-use Rattle.refusal.specs.declared.Refusal.{Refusal}
 use Rattle.request_header.specs.declared.Limits.{Limits}
-use Rattle.request_header.specs.declared.Pdu.{Pdu}
 use Rattle.request_header.specs.Request.{read_pdu, judged, Answer, got, refused, known, opcode_of}
 use Rattle.request_header.specs.Request.{data_length_of, stated_length, shared_ok, rule_ok, snack_ok, pdu_of, request_of}
-use Rattle.request_header.specs.Verdicts.{fields_ok, refusal_before_field, first_refusal, refusal_numbered}
+use Rattle.request_header.specs.Verdicts.{fields_ok, refusal_before_field, first_refusal}
 
 pub and-true : (b : Bool) → (b && true) ≡ b
 and-true true = refl
@@ -77,18 +74,6 @@ one-given false true c d y e = refl
 one-given false false true d y e = refl
 one-given false false false true y e = refl
 one-given false false false false y e = absurd (e refl)
-
--- a number that reading answers is that of its refusal
-given-number : (a b c d ok : Bool) (p : Pdu) (n : ℕ)
-    → pick a (refused 4) (pick b (refused 2) (pick c (refused 5) (pick d (refused 4) (pick ok (got p) (refused 3))))) ≡ refused n
-    → n ≡ number (refusal_numbered n)
-unfolding refusal_numbered
-given-number true b c d ok p n e = let q : n ≡ 4 = cc in rw q
-given-number false true c d ok p n e = let q : n ≡ 2 = cc in rw q
-given-number false false true d ok p n e = let q : n ≡ 5 = cc in rw q
-given-number false false false true ok p n e = let q : n ≡ 4 = cc in rw q
-given-number false false false false true p n e = let q : ◌≡◌ {A = ℕ} 0 1 = cc in absurd (omega arith)
-given-number false false false false false p n e = let q : n ≡ 3 = cc in rw q
 
 -- the number of the first refusal, f where one comes before FIELD
 numbered : ℕ → Bool → ℕ
@@ -152,15 +137,6 @@ module _ (m : Limits) (s : List ℕ) where
 
   pub read-refused : {n : ℕ} → n ≡ first_refusal m s → (n ≡ 0 → ⊥) → read_pdu m s ≡ refused n
   read-refused e f = rw (← e, ne_eqb _ _ f) at first_read
-
-  -- the refusal of a number that reading answers has that number
-  pub refused-number : {n : ℕ} → read_pdu m s ≡ refused n → {r : Refusal} → r ≡ refusal_numbered n → number r ≡ n
-  unfolding read_pdu judged
-  refused-number {n} e f =
-      ap number f
-      ∙ sym (given-number (ltb (length s) 48) (not (known (opcode_of s))) (ltb m.data_segment (data_length_of s))
-      (not (eqb (length s) (stated_length s))) (shared_ok (opcode_of s) s && rule_ok m (pdu_of (opcode_of s) s) (pdu_of (opcode_of s) s).request)
-      (pdu_of (opcode_of s) s) n e)
 
 -- an opcode that is read, and is none of the six others, is that of SNACK
 pub known-last : (op : ℕ) → known op ≡ true → (op ≡ 0x00 → ⊥) → (op ≡ 0x01 → ⊥) → (op ≡ 0x02 → ⊥) → (op ≡ 0x03 → ⊥) → (op ≡ 0x05 → ⊥) → (op ≡ 0x06 → ⊥)

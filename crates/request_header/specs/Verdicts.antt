@@ -2,10 +2,10 @@
 -- doesn't need it: these are in Request, and proofs/FieldRules ties what stands here to them.
 use Rattle.std.specs.Prelude.{ℕ, Bool, not, ◌&&◌, List, length, take, eqb, ltb, ◌≡◌}
 use Rattle.field.specs.Field.{pick}
-use Rattle.refusal.specs.declared.Refusal.{Refusal}
-use Rattle.refusal.specs.declared.Refusal.TheVariants as F
 use Rattle.request_header.specs.declared.Limits.{Limits}
-use Rattle.request_header.specs.Request.{known, opcode_of, data_length_of, stated_length, shared_ok, rule_ok, pdu_of, request_of}
+use Rattle.request_header.specs.Kind.{if_snack}
+use Rattle.request_header.specs.Request.{known, opcode_of, data_length_of, stated_length, shared_ok, rule_ok, pdu_of, request_of, Answer, got}
+use Rattle.request_header.specs.Request.{refused, read_pdu}
 
 -- the field rules, of an opcode and a header
 unfoldable pub fields_ok : Limits → ℕ → List ℕ → Bool
@@ -34,6 +34,12 @@ pub record IsGoodHeader (m : Limits) (s h : List ℕ) : Type 0 where
   pub good : first_refusal m s ≡ 0
   pub first : h ≡ take 48 s
 
--- the refusal of a number that reading answers: 2 is OPCODE, 3 FIELD, 4 LENGTH, 5 TOOLONG. It answers no other, and of any other it is TOOLONG
-unfoldable pub refusal_numbered : ℕ → Refusal
-refusal_numbered n = pick (eqb n 2) F.Opcode (pick (eqb n 3) F.Field (pick (eqb n 4) F.Length F.TooLong))
+-- reading's answer to one who reads SNACKs only: FIELD for another kind
+abbrev pub snack_only : Answer → Answer
+snack_only (refused n) = refused n
+snack_only (got p) = if_snack (λ q. got p) (refused 3) p.request
+
+-- the header of a good SNACK: its first 48 bytes
+pub record IsSnackHeader (m : Limits) (s h : List ℕ) : Type 0 where
+  pub good : read_pdu m s ≡ got (pdu_of 0x10 s)
+  pub first : h ≡ take 48 s

@@ -1,4 +1,4 @@
-// The lengths that a header states.
+// The lengths that a header states. The bytes are a slice of 48 or more: an array of 48 would ask more of a caller (docs/DECISIONS.md).
 ghost use Rattle.std.specs.Prelude.{◌≡◌, ◌^◌, ◌≤◌, ◌<◌, length};
 ghost use Rattle.request_header.specs.Request.{data_length_of, data_start_of};
 

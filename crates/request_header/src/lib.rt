@@ -63,8 +63,18 @@ pub struct Logout {
     pub cid: u16,
 }
 
+// Types of a SNACK.
+pub const SNACK_DATA_OR_R2T: u8 = 0;
+
+pub const SNACK_STATUS: u8 = 1;
+
+pub const SNACK_DATA_ACK: u8 = 2;
+
+pub const SNACK_R_DATA: u8 = 3;
+
 #[derive(Clone, Copy)]
 pub struct Snack {
+    // A number: `snack_of` gives whatever four bits stand there, and FIELD tells those above 3.
     pub snack_type: u8,
     // A SNACK Tag where the type is 3.
     pub target_transfer_tag: u32,
@@ -83,7 +93,7 @@ pub enum Request {
     Snack(Snack),
 }
 
-// The common fields, 0 where the request has none, the request, and where its data segment lies in the input.
+// The common fields, 0 where the request has none, as `pdu_of` and C's words have it, the request, and where its data segment lies in the input.
 #[derive(Clone, Copy)]
 pub struct Pdu {
     pub immediate: bool,

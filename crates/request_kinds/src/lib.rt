@@ -1,4 +1,6 @@
-// The fields of each kind of request, by its opcode.
+// The fields of each kind of request, by its opcode. An opcode stays a number: `request` and `lun`, which docs/PROOF.md names, and
+// `request_unnumbered::cmd_sn` promise what they do of any opcode, and an enum of the seven would ask more of a caller. So would an array of 48 in place
+// of a slice (docs/DECISIONS.md).
 #![tactic(auto)]
 
 ghost use Rattle.std.specs.Prelude.{◌≡◌, ◌||◌, eqb, ◌≤◌, length};
@@ -75,7 +77,8 @@ fn logout(s: &[u8]) -> Logout
     }
 }
 
-// The request of an opcode.
+// The request of an opcode. It stays a match: each kind has its own function and its own variant, so a table of functions would have the same seven rows
+// and ten holes, and be no plainer.
 #[tactic(auto, unfolding(request_header::specs::Request::request_of))]
 pub fn request(s: &[u8], op: u8) -> Request
     requires { 48 ≤ length s.now }

@@ -7,8 +7,7 @@ ghost use Rattle.request_header.specs.Request.{length_answer_of, length_asked};
 use field::HEADER_BYTES;
 use refusal::Refusal;
 use request_header::Limits;
-use request_header::lengths::{data_length, data_start};
-use request_refusal::is_known;
+use request_refusal::length_of;
 
 // The whole length of the PDU that begins with these bytes: LENGTH under 48 of them, OPCODE, TOOLONG. Later bytes aren't looked at.
 pub fn whole_length(input: &[u8], limits: Limits) -> Result<u32, Refusal>
@@ -17,13 +16,5 @@ pub fn whole_length(input: &[u8], limits: Limits) -> Result<u32, Refusal>
     let Some(header) = input.first_chunk::<HEADER_BYTES>() else {
         return Err(Refusal::Length);
     };
-    if !is_known(header[0] % 64) {
-        return Err(Refusal::Opcode);
-    }
-    let data = data_length(header);
-    if (limits.data_segment as usize) < data {
-        return Err(Refusal::TooLong);
-    }
-    let whole = data_start(header) + (data + 3) / 4 * 4;
-    Ok(whole as u32)
+    length_of(header, limits)
 }

@@ -12,6 +12,8 @@ use request_kinds::{lun, request};
 use request_unnumbered::cmd_sn;
 use request_verdict::good_header;
 
+// What the header of that opcode says. The opcode is a number: see `request_kinds`.
+#[tactic(auto, unfolding(request_header::specs::Request::pdu_of))]
 fn pdu(s: &[u8; HEADER_BYTES], op: u8) -> Pdu
     ensures { result ≡ pdu_of op s.now }
 {
@@ -38,6 +40,7 @@ pub fn read(input: &[u8], limits: Limits) -> Result<Pdu, Refusal>
 }
 
 // The data segment of a PDU that was read from this input: a part of it, without pad.
+#[tactic(auto, unfolding(request_header::specs::Request::data_of))]
 pub fn data_of(input: &[u8], p: Pdu) -> &[u8]
     ensures { result.now ≡ data_of input.now p }
 {

@@ -10,11 +10,13 @@ use Rattle.field.specs.Field.{pick}
 use Rattle.request_header.specs.declared.DataOut.{DataOut}
 use Rattle.request_header.specs.declared.Snack.{Snack}
 use Rattle.request_header.specs.declared.Limits.{Limits}
+use Rattle.request_header.specs.declared.Pdu.{Pdu}
+use Rattle.request_header.specs.declared.Request.{Request}
 use Rattle.request_header.specs.declared.Request.TheVariants as Q
 use Rattle.request_header.specs.Kind.{if_data_out, if_snack}
 use Rattle.request_header.specs.Request.{Answer, read_pdu, got, refused, known, opcode_of, request_of, pdu_of}
 use Rattle.request_header.specs.Request.{nop_out_of, scsi_command_of, task_management_of, login_of, data_out_of, logout_of, snack_of}
-use Rattle.request_header.specs.Verdicts.{IsHeader, fields_ok}
+use Rattle.request_header.specs.Verdicts.{IsHeader, fields_ok, snack_only}
 use Rattle.request_header.proofs.FieldRules.{known-last, known_past, rules-past}
 use Rattle.request_header.proofs.Header.{header-opcode, header-fields-ok}
 
@@ -87,3 +89,18 @@ module _ (s : List ℕ) {A : Type 0} (d : A) where
       (λ a b c d e g.
       h (known-last o k (eqb-false o 0x00 a) (eqb-false o 0x01 b) (eqb-false o 0x02 c)
       (eqb-false o 0x03 d) (eqb-false o 0x05 e) (eqb-false o 0x06 g)))
+
+-- what is made of reading's answer by one who looks at SNACKs only: g of a SNACK, and of another kind what is made of FIELD
+module _ {A : Type 0} (F : Answer → A) (g : Pdu → Snack → A) (is : (p : Pdu) → F (got p) ≡ if_snack (g p) (F (refused 3)) p.request) where
+  by-kind : (p : Pdu) (r : Request) → p.request ≡ r → F (if_snack (λ q. got p) (refused 3) r) ≡ F (got p)
+  by-kind p (Q.NopOut x) e = sym (is p ∙ ap (if_snack (g p) (F (refused 3))) e)
+  by-kind p (Q.ScsiCommand x) e = sym (is p ∙ ap (if_snack (g p) (F (refused 3))) e)
+  by-kind p (Q.TaskManagement x) e = sym (is p ∙ ap (if_snack (g p) (F (refused 3))) e)
+  by-kind p (Q.Login x) e = sym (is p ∙ ap (if_snack (g p) (F (refused 3))) e)
+  by-kind p (Q.DataOut x) e = sym (is p ∙ ap (if_snack (g p) (F (refused 3))) e)
+  by-kind p (Q.Logout x) e = sym (is p ∙ ap (if_snack (g p) (F (refused 3))) e)
+  by-kind p (Q.Snack x) e = refl
+
+  pub of-snack_only : (a : Answer) → F (snack_only a) ≡ F a
+  of-snack_only (refused n) = refl
+  of-snack_only (got p) = by-kind p p.request refl

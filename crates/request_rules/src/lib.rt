@@ -1,5 +1,5 @@
 // The field rules of the requests, over the bytes of a header. Each breach is FIELD. Each kind has its rules whole, so that who reads one
-// kind looks at no other.
+// kind looks at no other. The bytes are a slice of 48 or more: an array of 48 would ask more of a caller (docs/DECISIONS.md).
 #![tactic(auto, using(request_header::proofs::FieldRules::kind_rules))]
 
 ghost use Rattle.std.specs.Prelude.{◌≡◌, ◌||◌, ◌&&◌, ◌%◌, leb, eqb, ◌≤◌, length};
@@ -9,11 +9,11 @@ ghost use Rattle.request_header.specs.Request.{snack_ok};
 ghost use Rattle.request_header.specs.Verdicts.{fields_ok};
 
 use field::{be, flag};
-use request_header::Limits;
 use request_header::lengths::data_length;
+use request_header::{Limits, SNACK_DATA_ACK, SNACK_DATA_OR_R2T, SNACK_R_DATA, SNACK_STATUS};
 
 // The tag that stands for none, as wide as a field is read.
-const NONE: u64 = 0xffff_ffff;
+const NONE: u64 = field::NONE as u64;
 
 // Byte 1's highest bit is set, and TotalAHSLength is 0.
 fn top_bit_and_no_ahs(s: &[u8]) -> bool
@@ -84,10 +84,10 @@ fn tags_ok(snack_type: u8, itt: u64, ttt: u64) -> bool
     ensures { result ≡ snack_ok snack_type itt ttt }
 {
     match snack_type {
-        0 => ttt == NONE,
-        1 => (itt == NONE) & (ttt == NONE),
-        2 => itt == NONE,
-        3 => (ttt != 0) & (ttt != NONE),
+        SNACK_DATA_OR_R2T => ttt == NONE,
+        SNACK_STATUS => (itt == NONE) & (ttt == NONE),
+        SNACK_DATA_ACK => itt == NONE,
+        SNACK_R_DATA => (ttt != 0) & (ttt != NONE),
         _ => false,
     }
 }

@@ -1,4 +1,5 @@
-// The fields of the two kinds of request that bear no CmdSN, Data-Out and SNACK, and the CmdSN of the others.
+// The fields of the two kinds of request that bear no CmdSN, Data-Out and SNACK, and the CmdSN of the others. The bytes are a slice of 48 or
+// more: an array of 48 would ask more of a caller (docs/DECISIONS.md).
 #![tactic(auto)]
 
 ghost use Rattle.std.specs.Prelude.{◌≡◌, ◌||◌, eqb, ◌≤◌, length};

@@ -1,10 +1,10 @@
-// The first refusal of a request PDU by its bytes, with FIELD.
+// The first refusal of a request PDU by its bytes, with FIELD: of any kind, and to one who reads SNACKs only.
 #![tactic(auto)]
 
 ghost use Rattle.std.specs.Prelude.{◌≡◌, true, IfOk, IfErr};
 ghost use Rattle.refusal.specs.Refusal.{number};
-ghost use Rattle.request_header.specs.Request.{known, opcode_of};
-ghost use Rattle.request_header.specs.Verdicts.{IsGoodHeader, fields_ok, first_refusal};
+ghost use Rattle.request_header.specs.Request.{known, opcode_of, refused, read_pdu};
+ghost use Rattle.request_header.specs.Verdicts.{IsGoodHeader, fields_ok, first_refusal, IsSnackHeader, snack_only};
 
 use field::HEADER_BYTES;
 use refusal::Refusal;
@@ -14,7 +14,8 @@ use request_rules::{
     data_out_ok, login_ok, logout_ok, nop_out_ok, scsi_command_ok, snack_ok, task_management_ok,
 };
 
-// The rules of the kind that the opcode names.
+// The rules of the kind that the opcode names, a number as `request_kinds` has why. It stays a match: each kind has its own rules, task management's by the
+// limits too, so a table of functions would be no plainer.
 fn fields_ok(s: &[u8; HEADER_BYTES], limits: Limits) -> bool
     requires { known (opcode_of s.now) ≡ true }
     ensures { result ≡ fields_ok limits (opcode_of s.now) s.now }
@@ -42,4 +43,18 @@ pub fn good_header(input: &[u8], limits: Limits) -> Result<&[u8; HEADER_BYTES], 
     } else {
         Err(Refusal::Field)
     }
+}
+
+// The header of a good SNACK, or reading's refusal, FIELD for another kind: the rules of another are not looked at. Its readers have it in their own
+// code: called, it took a fifth more instructions.
+#[inline(always)]
+pub fn snack_header(input: &[u8], limits: Limits) -> Result<&[u8; HEADER_BYTES], Refusal>
+    ensures header { IfOk result (λ h. IsSnackHeader limits input.now h.now) }
+    ensures refusal { IfErr result (λ f. snack_only (read_pdu limits input.now) ≡ refused (number f)) }
+{
+    let header = header_of(input, limits)?;
+    if (header[0] % 64 != 0x10) | !snack_ok(header) {
+        return Err(Refusal::Field);
+    }
+    Ok(header)
 }

@@ -32,12 +32,11 @@ pub and-false : (b : Bool) → (b && false) ≡ false
 and-false true = refl
 and-false false = refl
 
-module _ (m : Limits) (op : ℕ) (s : List ℕ) (c o : List ℕ) where
-  -- a broken rule is FIELD
-  pub kind-refused : (r : Bool) → r ≡ fields_ok m op s → r ≡ false → record { answer = 3; common = c; own = o } ≡ kind_words m op s c o
-  unfolding kind_words read_words
-  kind-refused r e f = rw (← e, f)
+-- bits and single bytes
+pub ruleset header_words = (bit-of, be-one)
 
+module _ (m : Limits) (op : ℕ) (s : List ℕ) (c o : List ℕ) where
+  -- a kept rule is a PDU
   pub kind-read : (r : Bool) → r ≡ fields_ok m op s → r ≡ true → (cs os : List ℕ) → cs ≡ common_words (pdu_of op s) → os ≡ own_words (request_of op s)
       → record { answer = 0; common = cs; own = os } ≡ kind_words m op s c o
   unfolding kind_words read_words pdu_of
@@ -45,12 +44,12 @@ module _ (m : Limits) (op : ℕ) (s : List ℕ) (c o : List ℕ) where
 
 module _ (m : Limits) (s : List ℕ) (c o : List ℕ) where
   -- past the refusals before FIELD, the kind decides
-  pub kind-decides : {h : List ℕ} → IsHeader m s h → {op : ℕ} {x : ReadWords} → opcode_of h ≡ op → x ≡ kind_words m op h c o → x ≡ read_words (read_pdu m s) c o
+  pub kind_decides : {h : List ℕ} → IsHeader m s h → {op : ℕ} {x : ReadWords} → opcode_of h ≡ op → x ≡ kind_words m op h c o → x ≡ read_words (read_pdu m s) c o
   unfolding kind_words
-  kind-decides {h} i {op} g e =
+  kind_decides {h} i {op} g e =
       let same : opcode_of s ≡ op = sym (ap opcode_of i.first ∙ first-opcode s) ∙ g in
       rw (rules-past m s (sym i.passed) refl, same) (e ∙ rw (i.first, first-fields-ok s m op, first-pdu s op))
 
-  pub refused-words : {n : ℕ} → n ≡ refusal_before_field m s → (n ≡ 0 → ⊥) → record { answer = n; common = c; own = o } ≡ read_words (read_pdu m s) c o
+  pub refused_words : {n : ℕ} → n ≡ refusal_before_field m s → (n ≡ 0 → ⊥) → record { answer = n; common = c; own = o } ≡ read_words (read_pdu m s) c o
   unfolding read_words
-  refused-words f e = rw (refused-before m s f e)
+  refused_words f e = rw (refused-before m s f e)

@@ -1,6 +1,13 @@
 // Requests as words: what all kinds share, and the two that bear no CmdSN, Data-Out and SNACK, judged and written from the bytes of a header.
-// Refusals stay numbers here: they are what the C interface answers (3 is FIELD).
-#![tactic(auto)]
+// Refusals stay numbers here: what `kind_words` gives beside both arrays is C's answer, a number. The bytes are a slice of 48 or more: an array of 48 would
+// ask more of a caller (docs/DECISIONS.md).
+#![tactic(auto, using(crate::proofs::Reading::header_words),
+// What reading answers of a kind.
+unfolding(crate::specs::RequestWords::kind_words, crate::specs::RequestWords::read_words,
+// The words of a PDU.
+crate::specs::RequestWords::common_words, crate::specs::RequestWords::own_words, crate::specs::RequestWords::opcode_word,
+// And the PDU of a header.
+request_header::specs::Request::pdu_of, request_header::specs::Request::request_of))]
 
 ghost use Rattle.std.specs.Prelude.{◌≡◌, [], ◌∷◌, ◌<◌, ◌≤◌, length};
 ghost use Rattle.field.specs.Field.{be_at, byte, bit};
@@ -12,6 +19,9 @@ ghost use Rattle.request_words.specs.RequestWords.{ReadWords, kind_words};
 use field::be;
 use request_header::lengths::{data_length, data_start};
 use request_rules::{data_out_ok, snack_ok};
+
+// C's answer that a field breaks a rule.
+pub const FIELD: u32 = 3;
 
 // The opcode, the common fields and the place of the data segment.
 pub fn put_common(
@@ -37,7 +47,7 @@ pub fn put_common(
     ];
 }
 
-// The bit of b whose weight is k, as a word.
+// The bit of b whose weight is k, as a word. Of a word, as C's are, where `field::flag` is of a byte: neither casts.
 pub fn bit_word(b: u64, k: u64) -> u64
     requires { 0 < k }
     ensures { result ≡ flag_word (bit b k) }
@@ -58,7 +68,7 @@ pub fn data_out(s: &[u8], common: &mut [u64; 8], own: &mut [u64; 9]) -> u32
     ensures { (m : Limits) → ◌≡◌ {A = ReadWords} (record { answer = result; common = common.new; own = own.new }) (kind_words m 0x05 s.now common.old own.old) }
 {
     if !data_out_ok(s) {
-        return 3;
+        return FIELD;
     }
     put_common(s, 0x05, 0, 0, be(s, 8, 8), common);
     *own = [
@@ -80,7 +90,7 @@ pub fn snack(s: &[u8], common: &mut [u64; 8], own: &mut [u64; 9]) -> u32
     ensures { (m : Limits) → ◌≡◌ {A = ReadWords} (record { answer = result; common = common.new; own = own.new }) (kind_words m 0x10 s.now common.old own.old) }
 {
     if !snack_ok(s) {
-        return 3;
+        return FIELD;
     }
     put_common(s, 0x10, 0, 0, be(s, 8, 8), common);
     *own = [

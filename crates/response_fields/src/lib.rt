@@ -8,7 +8,7 @@ ghost use Rattle.response_header.specs.Response.{weigh, header_bytes};
 ghost use Rattle.response_layout.specs.WholeNumbers.{own_bytes};
 
 use data_fields::{data_in, r2t};
-use field::{NONE, four, low_three, pair, six_two};
+use field::{HEADER_BYTES, NONE, four, low_three, pair, six_two};
 use response_header::{LoginResponse, NopIn, Reject, Response};
 use response_layout::{OwnFields, weight};
 use status_fields::{logout_response, scsi_response, task_management_response};
@@ -57,7 +57,7 @@ fn reject(x: Reject) -> OwnFields
 {
     let first = four(0x3f, 0x80, x.reason, 0);
     OwnFields {
-        at_0: pair(first, 48),
+        at_0: pair(first, HEADER_BYTES as u32),
         at_8: 0,
         at_16: pair(NONE, 0),
         has_stat_sn: true,

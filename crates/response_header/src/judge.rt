@@ -3,6 +3,7 @@ ghost use Rattle.std.specs.Prelude.{◌≡◌};
 ghost use Rattle.response_header.specs.Response.{data_length_in, fields_fit, is_too_long, refusal_in, judgement_number};
 
 use crate::Response;
+use field::HEADER_BYTES;
 use refusal::Refusal;
 
 // The data length that a response states.
@@ -14,7 +15,7 @@ fn data_length_in(r: Response) -> u32
         Response::ScsiResponse(x) => x.data_segment_length,
         Response::LoginResponse(x) => x.data_segment_length,
         Response::DataIn(x) => x.data_segment_length,
-        Response::Reject(_) => 48,
+        Response::Reject(_) => HEADER_BYTES as u32,
         // The others have no data.
         _ => 0,
     }

@@ -16,7 +16,7 @@ pub struct OwnFields {
     pub at_40: u64,
 }
 
-// k where on is set, else 0.
+// k where on is set, else 0. A byte's; one function over every width would be no plainer.
 pub fn weight(on: bool, k: u8) -> u8
     ensures { (result ≡ weigh on k) × (result ≤ k) }
 {

@@ -8,13 +8,9 @@ ghost use Rattle.response_words.specs.ResponseWords.{unfit_refusal};
 use refusal::Refusal;
 use response_header::judge::too_long;
 
-// One more than the greatest value of a field of 32 bits, and of 16 and 8. A kind tests all its words at once and then casts: `try_from` on each
+// One more than the greatest value of a field of 32 bits; `words` has those of 16 and 8. A kind tests all its words at once and then casts: `try_from` on each
 // word would be as many exits, each with the same Unfit.
 pub const WIDE_32: u64 = 0x1_0000_0000;
-
-pub const WIDE_16: u64 = 0x1_0000;
-
-pub const WIDE_8: u64 = 0x100;
 
 // Words that are no response, by the data length that they state.
 #[derive(Clone, Copy)]

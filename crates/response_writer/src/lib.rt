@@ -14,7 +14,7 @@ use response_header::judge::judge;
 use response_header::{Numbers, Response};
 use response_layout::OwnFields;
 
-// The StatSN that stands in a header: the next one, or 0 in Data-In, which has none.
+// The StatSN that stands in a header: the next one, or 0 in Data-In, which has none. `response_layout::weight` is a byte's.
 fn stat_sn_in(has_stat_sn: bool, stat_sn: u32) -> u32
     ensures { result ≡ pick has_stat_sn stat_sn 0 }
 {
@@ -38,6 +38,7 @@ pub fn place(out: &mut [u8], at: usize, o: OwnFields, n: Numbers)
 }
 
 // Writes the header into the first 48 bytes of out, or refuses: BUFFER, TOOLONG, FIELD.
+#[tactic(auto, unfolding(crate::specs::Writing::writing))]
 pub fn write(out: &mut [u8], r: Response, n: Numbers, max_data: u32) -> Result<(), Refusal>
     ensures { ◌≡◌ {A = Outcome} (record { answer = answered result; bytes = out.new }) (writing max_data out.old r n) }
 {

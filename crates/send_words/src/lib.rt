@@ -14,7 +14,7 @@ ghost use Rattle.call_words.specs.Session.{session_words, Said, SaidUnfit, sends
 
 use answer_words::DONE;
 use field::HEADER_BYTES;
-use ledger::Sent;
+use ledger::{LEDGER_BYTES, LEDGER_SLOTS};
 use refusal::Refusal;
 use response_from_words::response;
 use response_header::{MAX_DATA, Response};
@@ -27,8 +27,8 @@ use task::Task;
 fn send_known(
     n: &mut [u32; 15],
     m: &mut [u64; 6],
-    statuses: &mut [u8; 6144],
-    status_tickets: &mut [u32; 128],
+    statuses: &mut [u8; LEDGER_BYTES],
+    status_tickets: &mut [u32; LEDGER_SLOTS],
     t: Task,
     conn: u32,
     ticket: u32,
@@ -44,10 +44,11 @@ fn send_known(
     let s = load(n, m);
     match session_send::send(s, conn, ticket, r, t, out, statuses, status_tickets) {
         Err(f) => answer_words::pack_refused(f),
-        Ok(Sent::NotStored(stat_sn)) => answer_words::pack(DONE, stat_sn),
-        Ok(Sent::Stored { stat_sn, ledger }) => {
-            store_ledger(n, conn, ledger);
-            answer_words::pack(DONE, stat_sn)
+        Ok(sent) => {
+            if let Some(ledger) = sent.ledger {
+                store_ledger(n, conn, ledger);
+            }
+            answer_words::pack(DONE, sent.stat_sn)
         }
     }
 }
@@ -74,8 +75,8 @@ fn send_unfit(n: &[u32; 15], m: &[u64; 6], conn: u32, stated: u64, lent: usize) 
 pub fn send(
     n: &mut [u32; 15],
     m: &mut [u64; 6],
-    statuses: &mut [u8; 6144],
-    status_tickets: &mut [u32; 128],
+    statuses: &mut [u8; LEDGER_BYTES],
+    status_tickets: &mut [u32; LEDGER_SLOTS],
     task: &[u32; 12],
     wide: &[u64; 4],
     conn: u32,

@@ -1,7 +1,6 @@
 // The calls on commands and connections, each with a line that says what was called and what came.
 use crate::pdu::write_command;
 use book::Opening;
-use print::put_refused;
 use session::FreshSession;
 use session_commands::Offered;
 use session_connections::after_logout;
@@ -38,7 +37,7 @@ pub(crate) fn offer<W: Write>(
         &mut f.headers,
         &mut f.tickets,
     ) {
-        Err(e) => put_refused(to, e),
+        Err(e) => writeln!(to, "{e}"),
         Ok(step) => {
             f.session = after_window(f.session, step.window);
             writeln!(to, "{}", word_of(step.answer))
@@ -68,7 +67,7 @@ pub(crate) fn take<W: Write>(to: &mut W, f: &mut FreshSession) -> io::Result<()>
     write!(to, "take: ")?;
     let mut out = [0u8; 48];
     match session_commands::take(f.session, &f.headers, &f.tickets, &mut out) {
-        Err(e) => put_refused(to, e),
+        Err(e) => writeln!(to, "{e}"),
         Ok(step) => {
             f.session = after_window(f.session, step.window);
             put_taken(to, step.answer)
@@ -94,7 +93,7 @@ pub(crate) fn open<W: Write>(
 ) -> io::Result<()> {
     write!(to, "open {conn}: ")?;
     match session_connections::open_connection(f.session, conn, Opening { stat_sn }) {
-        Err(e) => put_refused(to, e),
+        Err(e) => writeln!(to, "{e}"),
         Ok(k) => {
             f.session = after_conn(f.session, conn, k);
             writeln!(to, "opened")
@@ -112,7 +111,7 @@ pub(crate) fn logout<W: Write>(
     let r = session_connections::logout(f.session, conn, reason);
     f.session = after_logout(f.session, conn, r);
     match r {
-        Err(e) => put_refused(to, e),
+        Err(e) => writeln!(to, "{e}"),
         Ok(l) => writeln!(to, "emptied {} voided {}", l.emptied, l.voided),
     }
 }

@@ -1,8 +1,6 @@
 // The calls on statuses, each with a line that says what was called and what came.
 use crate::pdu::status_snack;
 use field::{NONE, be32};
-use ledger::Sent;
-use print::put_refused;
 use refusal::Refusal;
 use response_header::{Reject, Response};
 use session::FreshSession;
@@ -30,7 +28,7 @@ fn fresh_task() -> Result<Task, Refusal> {
 fn send_reject(f: &mut FreshSession, conn: u32, ticket: u32) -> Result<u32, Refusal> {
     let t = fresh_task()?;
     let mut out = [0u8; 48];
-    match session_send::send(
+    let sent = session_send::send(
         f.session,
         conn,
         ticket,
@@ -39,13 +37,11 @@ fn send_reject(f: &mut FreshSession, conn: u32, ticket: u32) -> Result<u32, Refu
         &mut out,
         &mut f.statuses,
         &mut f.status_tickets,
-    )? {
-        Sent::NotStored(n) => Ok(n),
-        Sent::Stored { stat_sn, ledger } => {
-            f.session = after_ledger(f.session, conn, ledger);
-            Ok(stat_sn)
-        }
+    )?;
+    if let Some(ledger) = sent.ledger {
+        f.session = after_ledger(f.session, conn, ledger);
     }
+    Ok(sent.stat_sn)
 }
 
 pub(crate) fn send<W: Write>(
@@ -56,7 +52,7 @@ pub(crate) fn send<W: Write>(
 ) -> io::Result<()> {
     write!(to, "send {conn}: ")?;
     match send_reject(f, conn, ticket) {
-        Err(e) => put_refused(to, e),
+        Err(e) => writeln!(to, "{e}"),
         Ok(n) => writeln!(to, "sent 0x{n:08x}"),
     }
 }
@@ -69,7 +65,7 @@ pub(crate) fn acknowledge<W: Write>(
 ) -> io::Result<()> {
     write!(to, "acknowledge {conn} 0x{exp_stat_sn:08x}: ")?;
     match session_statuses::acknowledge(f.session, conn, exp_stat_sn) {
-        Err(e) => put_refused(to, e),
+        Err(e) => writeln!(to, "{e}"),
         Ok(x) => {
             f.session = after_ledger(f.session, conn, x.ledger);
             writeln!(to, "acknowledged {}", x.count)
@@ -86,7 +82,7 @@ pub(crate) fn snack<W: Write>(
 ) -> io::Result<()> {
     write!(to, "snack {conn} (0x{beg_run:08x}, {run_length}): ")?;
     match session_snack::snack(f.session, conn, &status_snack(beg_run, run_length)) {
-        Err(e) => put_refused(to, e),
+        Err(e) => writeln!(to, "{e}"),
         Ok(run) => writeln!(to, "run 0x{:08x} {}", run.first, run.count),
     }
 }
@@ -120,7 +116,7 @@ pub(crate) fn resend<W: Write>(
     write!(to, "resend {conn} 0x{stat_sn:08x}: ")?;
     let mut out = [0u8; 48];
     match resend_into(f, conn, stat_sn, &mut out) {
-        Err(e) => put_refused(to, e),
+        Err(e) => writeln!(to, "{e}"),
         Ok(ticket) => writeln!(
             to,
             "resent ticket {ticket} numbers 0x{:08x} 0x{:08x} 0x{:08x}",

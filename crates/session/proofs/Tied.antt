@@ -366,7 +366,8 @@ called-did (ask q) d x = put-did q d x
 -- "each on the state that the last left"
 pub data Calls : State → List Event → State → Type 1 where
   end : {s : State} → Calls s [] s
-  then : {s s' s'' : State} {c : Call} {a : Answer} {o : Outputs} {es : List Event} → Called (done c s a o s') → Calls s' es s'' → Calls s (event c a o ∷ es) s''
+  then : {s s' s'' : State} {c : Call} {a : Answer} {o : Outputs} {es : List Event} → Called (done c s a o s') → Calls s' es s''
+      → Calls s (event c a o ∷ es) s''
 
 -- Such a list as a history of contracts, over the same states and events.
 abbrev pub as-ran : {s s' : State} {es : List Event} → Calls s es s' → Ran s es s'

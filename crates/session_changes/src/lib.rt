@@ -1,7 +1,7 @@
 // What a call changes of a session's words: what is new is written, every other word stays.
 #![tactic(auto)]
 
-ghost use Rattle.std.specs.Prelude.{◌≡◌, ◌<◌, List, ℕ, length};
+ghost use Rattle.std.specs.Prelude.{◌≡◌, ◌<◌, List, ℕ};
 ghost use Rattle.book.specs.Book.{connections};
 ghost use Rattle.session_state.specs.After.{after_window, after_conns, after_conn, after_ledger};
 ghost use Rattle.session_connections.specs.After.{closing};
@@ -23,8 +23,8 @@ fn conn_place(conn: u32) -> usize
 }
 
 // Keeps a window.
-pub fn store_window(n: &mut [u32], m: &mut [u64; 6], w: Window)
-    requires { length n.old ≡ 15 }
+#[tactic(auto, using(crate::proofs::Kept::window_kept))]
+pub fn store_window(n: &mut [u32; 15], m: &mut [u64; 6], w: Window)
     ensures { (n.new ≡ window_numbers w n.old) × (m.new ≡ window_maps w)
         × (session_of n.new m.new ≡ after_window (session_of n.old m.old) w) }
 {
@@ -34,8 +34,10 @@ pub fn store_window(n: &mut [u32], m: &mut [u64; 6], w: Window)
 }
 
 // Keeps the connection of a number.
-pub fn store_conn(n: &mut [u32], conn: u32, k: Conn)
-    requires { length n.old ≡ 15 }
+#[tactic(auto, using(crate::proofs::Kept::conn_kept, crate::proofs::Kept::conn_far),
+// Its ledger's words, and its own.
+unfolding(crate::specs::Changes::ledger_numbers, crate::specs::Changes::conn_numbers))]
+pub fn store_conn(n: &mut [u32; 15], conn: u32, k: Conn)
     ensures { (n.new ≡ conn_numbers conn k n.old)
         × ((m : List ℕ) → session_of n.new m ≡ after_conn (session_of n.old m) conn k) }
 {
@@ -46,8 +48,8 @@ pub fn store_conn(n: &mut [u32], conn: u32, k: Conn)
 }
 
 // Keeps the ledger of a connection.
-pub fn store_ledger(n: &mut [u32], conn: u32, l: Ledger)
-    requires { length n.old ≡ 15 }
+#[tactic(auto, using(crate::proofs::Kept::ledger_kept, crate::proofs::Kept::conn_far), unfolding(crate::specs::Changes::ledger_numbers))]
+pub fn store_ledger(n: &mut [u32; 15], conn: u32, l: Ledger)
     ensures { (n.new ≡ ledger_numbers conn l n.old)
         × ((m : List ℕ) → session_of n.new m ≡ after_ledger (session_of n.old m) conn l) }
 {
@@ -59,8 +61,8 @@ pub fn store_ledger(n: &mut [u32], conn: u32, l: Ledger)
 }
 
 // Closes a connection, or all of them.
-pub fn close(n: &mut [u32], conn: u32, k: Closes)
-    requires { length n.old ≡ 15 }
+#[tactic(auto, using(crate::proofs::Kept::own_closed, crate::proofs::Kept::none_closed), unfolding(crate::specs::Changes::shut_numbers))]
+pub fn close(n: &mut [u32; 15], conn: u32, k: Closes)
     ensures { (n.new ≡ shut_numbers k conn n.old)
         × ((m : List ℕ) → session_of n.new m ≡ after_conns (session_of n.old m) (closing k conn (session_of n.old m).conns)) }
 {

@@ -21,20 +21,24 @@ use store::HEADER_BYTES;
 use window::{WINDOW_BYTES, WINDOW_SLOTS, Window};
 use window_take::TakeStep;
 
-// What becomes of an offered PDU that is not refused: an immediate command is the caller's, a numbered one the window's.
+// What becomes of an offered PDU that is not refused: an immediate command is the caller's, a numbered one the window's. No Option: None
+// would read as no answer, where the caller has the command.
 #[derive(Clone, Copy)]
 pub enum Offered {
     Immediate,
     Numbered(window::Offered),
 }
 
+// No Step<A>: see `window_offer::OfferStep`.
 #[derive(Clone, Copy)]
 pub struct OfferStep {
     pub answer: Offered,
     pub window: Window,
 }
 
-// Whether a header is of a kind that is offered and meets its rules; another kind is FIELD either way.
+// Whether a header is of a kind that is offered and meets its rules; another kind is FIELD either way. It stays a match: four kinds have rules of their own,
+// task management's by the limits too, so a table of functions would be no plainer.
+#[tactic(auto, unfolding(request_header::specs::Request::request_of))]
 fn is_offered(s: &[u8; HEADER_BYTES], op: u8, limits: Limits) -> bool
     ensures { result ≡ fields_ok limits op s.now && is_offered (request_of op s.now) }
 {

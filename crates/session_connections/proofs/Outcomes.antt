@@ -5,22 +5,17 @@ use mathlib.Core.Bool.{false}
 use mathlib.Core.List.{List}
 use native.Mathlib.Omega.{arith}
 use native.Mathlib.Decide.{ℕ_discrete}
-use borrow.Author.Tests.{lt-ltb, le-ltb, le-leb, lt-leb, eq-eqb, ne_eqb}
+use borrow.Author.Tests.{lt-ltb, le-leb, eq-eqb, ne_eqb}
 use lib.ListN.{length, get_or, length-set}
 use lib.Seq.{get_or-set_same, get_or-set_other}
-use Rattle.refusal.specs.declared.Refusal.{Refusal}
-use Rattle.refusal.specs.declared.Refusal.TheVariants as F
-use Rattle.refusal.specs.Refusal.{number}
 use Rattle.window.specs.Book as W
 use Rattle.window.specs.Agree as WA
 use Rattle.window.specs.declared.Window.{Window}
 use Rattle.book.specs.declared.Opening.{Opening}
-use Rattle.book.specs.Book.{OpenConnection, opened_by, closed, live, Book, no_outputs, logout, opening, Choice, refused, opened, step, conn_of, with_conn, on_connection, conns_left, logged_out, logout_by, open_at, book_step}
-use Rattle.book.proofs.Small.{all_closed}
+use Rattle.book.specs.Book.{opened_by, closed, live, Book, no_outputs, logout, opening, Choice, opened, step, conn_of, with_conn, on_connection, conns_left, logged_out, logout_by, open_at, book_step}
+use Rattle.window.proofs.Bits.{alike}
 use Rattle.session_state.specs.declared.Conn.{Conn}
-use Rattle.session_state.specs.declared.Session.{Session}
 use Rattle.session_state.specs.After.{no_conn, conn_at, after_window, after_conns}
-use Rattle.session_state.specs.Reach.{Unreached}
 use Rattle.session_state.specs.Agree.{State, state, ConnAgrees, Agrees}
 use Rattle.session_connections.specs.declared.Closes.{Closes}
 use Rattle.session_connections.specs.declared.Closes.TheVariants as C
@@ -29,20 +24,6 @@ use Rattle.session_connections.specs.After.{Closing, shut, all_shut, one_shut, c
 -- ---- an opening
 
 module _ (b : Book) (c : ℕ) (g : Opening) (x : Choice) where
-  open_none : 4 ≤ c → book_step b (opening c g) x ≡ step (refused 7) no_outputs b
-  unfolding book_step
-  open_none l = rw (le-ltb c 4 l)
-
-  -- no connection of that number, the one reason why none is reached that isn't its being closed
-  pub open-refused : (s : Session) (f : Refusal) → Unreached s c f → (f ≡ F.Closed → ⊥) → book_step b (opening c g) x ≡ step (refused (number f)) no_outputs b
-  open-refused s F.NoConn u n = open_none u
-  open-refused s F.Closed u n = absurd (n refl)
-  open-refused s f u n = absurd u
-
-  pub open-live : (k : OpenConnection) → c < 4 → conn_of b c ≡ live k → book_step b (opening c g) x ≡ step (refused 9) no_outputs b
-  unfolding book_step open_at
-  open-live k l e = rw (lt-ltb c 4 l, e)
-
   pub open-closed : c < 4 → conn_of b c ≡ closed → book_step b (opening c g) x ≡ step opened no_outputs (with_conn b c (live (opened_by g)))
   unfolding book_step open_at
   open-closed l e = rw (lt-ltb c 4 l, e)
@@ -52,10 +33,6 @@ module _ (b : Book) (c : ℕ) (g : Opening) (x : Choice) where
 pub logout-eq : (b : Book) (c r : ℕ) (x : Choice) → book_step b (logout c r) x ≡ on_connection b c no_outputs (λ k. logout_by b c r)
 unfolding book_step
 logout-eq b c r x = refl
-
-pub logout-field : (b : Book) (c r : ℕ) → 2 < r → logout_by b c r ≡ step (refused 3) no_outputs b
-unfolding logout_by
-logout-field b c r l = rw (lt-leb r 2 l)
 
 pub logout-done : (b : Book) (c r : ℕ) → r ≤ 2 → logout_by b c r ≡ logged_out b c r (W.book_step b.window (W.logout c r))
 unfolding logout_by
@@ -104,6 +81,6 @@ left-agrees s b c r k w v g l o a = record {
     size (no z) = rw (ne_eqb r 0 z) (length-set b.conns c closed ∙ g.book_size)
 
     go : (j : ℕ) → j < 4 → Dec (r ≡ 0) → Dec (j ≡ c) → ConnAgrees j (get_or k j no_conn) s.statuses (get_or (conns_left b.conns c r) j closed)
-    go j lj (yes z) d = rw (eq-eqb r 0 z, all_closed 4 j) (o.every z j lj)
+    go j lj (yes z) d = rw (eq-eqb r 0 z, alike closed 4 j) (o.every z j lj)
     go j lj (no z) (yes q) = rw (ne_eqb r 0 z, q, get_or-set_same b.conns c closed closed (omega (arith, g.book_size))) o.own
     go j lj (no z) (no q) = rw (ne_eqb r 0 z, get_or-set_other b.conns c j closed closed q, o.others z j q) (g.conns j lj)

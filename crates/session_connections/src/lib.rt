@@ -14,6 +14,7 @@ use book::Opening;
 use refusal::Refusal;
 use session_state::{Conn, Session, after_window, reach};
 use window::{CONNECTIONS, CONNS, Window};
+use window_logout::{CLOSE_SESSION, RECOVERY};
 
 // What a logout closes: every connection of the session, or its own.
 #[derive(Clone, Copy)]
@@ -32,6 +33,13 @@ pub struct LoggedOut {
 }
 
 // Opens a connection with what it is given, its ledger empty. NOCONN, then OPEN.
+#[tactic(auto,
+// The book's step.
+unfolding(book::specs::Book::book_step, book::specs::Book::lending, book::specs::Book::on_connection, book::specs::Book::on_open,
+// The opening.
+book::specs::Book::open_at,
+// A connection, in the book and in the code.
+book::specs::Book::conn_of, session_state::specs::Agree::ConnAgrees, session_state::specs::After::conn_at))]
 pub fn open_connection(s: Session, conn: u32, given: Opening) -> Result<Conn, Refusal>
     ensures { (k : Commands) (ss : Statuses)
         → Did (Call.opening conn given) (state s k ss) (open_answer result) no_outputs (state (after_open s conn result) k ss) }
@@ -52,7 +60,7 @@ pub fn open_connection(s: Session, conn: u32, given: Opening) -> Result<Conn, Re
 fn closed_by(reason: u8) -> Closes
     ensures { Closing reason result }
 {
-    if reason == 0 {
+    if reason == CLOSE_SESSION {
         Closes::Session
     } else {
         Closes::Connection
@@ -61,12 +69,19 @@ fn closed_by(reason: u8) -> Closes
 
 // The effect of a logout on an open connection, with what it emptied and newly voided. NOCONN, CLOSED, then FIELD for a
 // reason above 2.
+#[tactic(auto,
+// The book's step.
+unfolding(book::specs::Book::book_step, book::specs::Book::lending, book::specs::Book::on_connection, book::specs::Book::on_open,
+// The step on an open connection.
+book::specs::Book::logout_by, book::specs::Book::logged_out,
+// A connection, in the book and in the code.
+book::specs::Book::conn_of, session_state::specs::Agree::ConnAgrees, session_state::specs::After::conn_at))]
 pub fn logout(s: Session, conn: u32, reason: u8) -> Result<LoggedOut, Refusal>
     ensures { (k : Commands) (ss : Statuses)
         → Did (Call.logout conn reason) (state s k ss) (logout_answer result) no_outputs (state (after_logout s conn result) k ss) }
 {
     reach(s, conn)?;
-    if 2 < reason {
+    if RECOVERY < reason {
         return Err(Refusal::Field);
     }
     let step = window_logout::logout(s.window, conn, reason);
@@ -89,6 +104,7 @@ fn shut(k: Conn) -> Conn
 }
 
 // The connections, all closed.
+#[tactic(auto, using(place_map::proofs::Bits::four), unfolding(crate::specs::After::all_shut))]
 fn all_shut(k: [Conn; CONNS]) -> [Conn; CONNS]
     ensures { result ≡ all_shut k }
 {

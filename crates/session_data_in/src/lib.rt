@@ -19,6 +19,13 @@ use task::{DataInSent, Task};
 
 // Sends a Data-In for a task on a connection: its header, with both window numbers, into the first 48 bytes of out. BUFFER, NOCONN, CLOSED, TOOLONG,
 // FIELD as the task's record has it.
+#[tactic(auto,
+// The book's step.
+unfolding(book::specs::Book::book_step, book::specs::Book::lending, book::specs::Book::on_connection, book::specs::Book::on_open,
+// The step on an open connection.
+book::specs::Book::transfer_by, book::specs::Book::moved_by,
+// A connection, in the book and in the code.
+book::specs::Book::conn_of, session_state::specs::Agree::ConnAgrees, session_state::specs::After::conn_at))]
 pub fn data_in(
     s: Session,
     conn: u32,
@@ -32,6 +39,8 @@ pub fn data_in(
         → Did (Call.transfer conn (record_of t tags ends) (Transfer.data_in is_final acknowledge length (outputs out.old)))
         (state s k ss) (transferred (data_in_step_of t tags ends result)) (outputs out.new) (state s k ss) }
 {
+    // BUFFER, then NOCONN, CLOSED, as in each call that writes a header: a function of both would take one test out of four calls, and need a contract
+    // of its own beside that of `reach`.
     if out.len() < HEADER_BYTES {
         return Err(Refusal::Buffer);
     }

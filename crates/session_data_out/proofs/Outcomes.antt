@@ -14,6 +14,7 @@ use Rattle.request_header.specs.declared.Request.TheVariants as R
 use Rattle.request_header.specs.Kind.{if_data_out}
 use Rattle.request_header.specs.Request as Read
 use Rattle.request_header.specs.Request.{read_pdu, got, pdu_of, request_of, data_out_of, data_length_of}
+use Rattle.request_header.proofs.Header.{header-be, header-data-out, header-data-length}
 use Rattle.request_refusal.proofs.OneKind.{not-data-out}
 use Rattle.task_book.specs.Record.{OpenR2T, Record}
 use Rattle.task_book.specs.Steps as T
@@ -50,6 +51,9 @@ module _ (x : Record) (s : List ℕ) where
   pub data-out-refused : (n : ℕ) → (n ≡ 0 → ⊥) → data_out_judged x s n ≡ T.refuse n x
   data-out-refused zero h = absurd (h refl)
   data-out-refused (suc n) h = refl
+
+-- what is read of the header is read of the PDU
+pub ruleset header_reads = (header-be, header-data-out, header-data-length)
 
 -- ---- the book's step
 

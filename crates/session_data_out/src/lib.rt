@@ -25,7 +25,8 @@ use request_rules::data_out_ok;
 use session_state::{Session, limits_of, reach};
 use task::{DataOutAnswer, OPEN_PLACES, Task};
 
-// Reading's refusals, and FIELD for another kind than a Data-Out; 0 where none is due.
+// Reading's refusals, and FIELD for another kind than a Data-Out; 0 where none is due. Not one function with `request_verdict::snack_header`: the rules are
+// another kind's, and the answer is a number (`data_out_refusal` has why). So is the opcode (`request_kinds` has why).
 fn read_refusal(limits: Limits, pdu: &[u8]) -> u32
     ensures { (result ≡ 0 → 48 ≤ length pdu.now)
         × ((x : Record) → data_out_judged x pdu.now result ≡ data_out_read x (read_pdu limits pdu.now)) }
@@ -56,6 +57,7 @@ pub fn data_out_refusal(s: Session, conn: u32, pdu: &[u8]) -> u32
 
 // What a Data-Out that is judged good brings: its fields, and where the task's record has its data. Judging gives a number back and not the header, so
 // the caller says that there is one.
+#[tactic(auto, using(crate::proofs::Outcomes::header_reads))]
 pub fn data_out_in(
     t: Task,
     tags: &[u32; OPEN_PLACES],

@@ -10,8 +10,7 @@ use Rattle.request_header.specs.declared.Request.{Request}
 use Rattle.request_header.specs.declared.Request.TheVariants as R
 use Rattle.request_header.specs.Kind.{if_snack}
 use Rattle.request_header.specs.Request as Read
-use Rattle.request_header.specs.Request.{read_pdu, got, pdu_of, request_of, known, snack_of}
-use Rattle.request_refusal.proofs.OneKind.{not-snack}
+use Rattle.request_header.specs.Request.{read_pdu, got, pdu_of, request_of, snack_of}
 use Rattle.task_book.specs.Record.{Record}
 use Rattle.task_book.specs.Steps as T
 use Rattle.task.specs.Agree.{data_snack_step_of}
@@ -24,10 +23,6 @@ use Rattle.session_state.specs.Transfer.{transferred}
 use Rattle.session_data_snack.specs.Reading.{data_snack_read}
 
 module _ (x : Record) (s : List ℕ) (v f : ℕ) where
-  pub snack-other : (o : ℕ) → known o ≡ true → (o ≡ 0x10 → ⊥) → data_snack_read x v f (got (pdu_of o s)) ≡ T.refuse 3 x
-  unfolding pdu_of
-  snack-other o k h = not-snack s (T.refuse 3 x) (λ q. T.data_snack_step x v (be_at s 16 4) f q) o k h
-
   pub snack-good : T.data_snack_step x v (be_at s 16 4) f (snack_of s) ≡ data_snack_read x v f (got (pdu_of 0x10 s))
   unfolding pdu_of request_of
   snack-good = refl

@@ -15,10 +15,8 @@ ghost use Rattle.session_state.specs.Transfer.{transferred};
 ghost use Rattle.session_data_snack.specs.Reading.{data_snack_read};
 
 use field::{HEADER_BYTES, be32};
-use refusal::Refusal;
 use request_header::Limits;
-use request_refusal::header_of;
-use request_rules::snack_ok;
+use request_verdict::snack_header;
 use session_state::{Session, limits_of, reach};
 use task::{DataSnackAnswer, Task};
 
@@ -37,14 +35,10 @@ fn read_data_snack(limits: Limits, level: u32, t: Task, offset: u32, pdu: &[u8])
     ensures { (tags ends : List ℕ) → data_snack_step_of t tags ends result
         ≡ data_snack_read (record_of t tags ends) level offset (read_pdu limits pdu.now) }
 {
-    let header = match header_of(pdu, limits) {
-        Ok(header) => header,
-        Err(f) => return DataSnackAnswer::from(f),
-    };
-    if (header[0] % 64 != 0x10) | !snack_ok(header) {
-        return DataSnackAnswer::from(Refusal::Field);
+    match snack_header(pdu, limits) {
+        Ok(header) => data_snack_in(level, t, offset, header),
+        Err(f) => DataSnackAnswer::from(f),
     }
-    data_snack_in(level, t, offset, header)
 }
 
 // A SNACK that came on a connection for a task's data: the run that it asks for, or how many numbers it acknowledges; the offset is where the data begins

@@ -12,7 +12,8 @@ use response_header::Numbers;
 use response_layout::OwnFields;
 use window::Window;
 
-// Writes a header of these fields, with this StatSN and the window's two numbers, into the first 48 bytes of out.
+// Writes a header of these fields, with this StatSN and the window's two numbers, into the first 48 bytes of out. Out is a slice: see
+// `store::put`.
 pub fn write_header(w: Window, stat_sn: u32, o: OwnFields, out: &mut [u8])
     requires { 48 ≤ length out.old }
     ensures { (r : Response) → ((n : Numbers) → header_bytes r n ≡ own_bytes o n) → IsWritten w stat_sn r out.old out.new }

@@ -16,7 +16,7 @@ use place_map::bit;
 use refusal::Refusal;
 use request_header::LIMITS;
 use session_state::{Session, reach};
-use window::{WINDOW_SLOTS, Window};
+use window::{PLACES, WINDOW_SLOTS, Window};
 
 #[derive(Clone, Copy)]
 pub struct WindowNumbers {
@@ -24,7 +24,7 @@ pub struct WindowNumbers {
     pub max_cmd_sn: u32,
 }
 
-// Who holds a number. Three answers to a question, none of them a refusal: an Option of a void number or a command would be read twice.
+// Who holds a number. Three answers, none of them a refusal: as an Option it would hold a second enum, void or command, to be matched again.
 #[derive(Clone, Copy)]
 pub enum HolderAnswer {
     Free,
@@ -33,6 +33,7 @@ pub enum HolderAnswer {
 }
 
 // ExpCmdSN and MaxCmdSN.
+#[tactic(auto, unfolding(book::specs::Book::book_step, book::specs::Book::reply_to))]
 pub fn window_numbers(s: Session) -> WindowNumbers
     ensures { (k : Commands) (ss : Statuses)
         → Did (Call.ask Question.window_numbers) (state s k ss)
@@ -46,6 +47,11 @@ pub fn window_numbers(s: Session) -> WindowNumbers
 }
 
 // The next StatSN of a connection. NOCONN, CLOSED.
+#[tactic(auto,
+// The book's step.
+unfolding(book::specs::Book::book_step, book::specs::Book::reply_to, book::specs::Book::next_of,
+// A connection, in the book and in the code.
+book::specs::Book::conn_of, session_state::specs::Agree::ConnAgrees, session_state::specs::After::conn_at))]
 pub fn next_stat_sn(s: Session, conn: u32) -> Result<u32, Refusal>
     ensures { (k : Commands) (ss : Statuses)
         → Did (Call.ask (Question.next_stat_sn conn)) (state s k ss) (next_answer result) no_outputs (state s k ss) }
@@ -55,12 +61,19 @@ pub fn next_stat_sn(s: Session, conn: u32) -> Result<u32, Refusal>
 }
 
 // Who holds a number of the window.
+#[tactic(auto,
+// The book's step.
+unfolding(window::specs::Book::holder_of, window::specs::Book::distance, window::specs::Book::holder_at,
+// A place, by its bits and its command.
+window::specs::Agree::Maps, window::specs::Agree::held_bit, window::specs::Agree::void_bit, window::specs::Agree::SlotHas,
+// Its origin, and its slot.
+window::specs::Agree::OriginAt, window::specs::PlaceSlot::slot_of))]
 fn holder_in(w: Window, tickets: &[u32; WINDOW_SLOTS], number: u32) -> HolderAnswer
     ensures { (h : List ℕ) (b : Book) → WA.Agrees (WA.state w (commands h tickets.now)) b
         → holder_answer result ≡ holder_of b number }
 {
     let d = number.wrapping_sub(w.next);
-    if WINDOW_SLOTS as u32 <= d {
+    if PLACES <= d {
         return HolderAnswer::Free;
     }
     if bit(w.held, d) == 0 {
@@ -76,6 +89,7 @@ fn holder_in(w: Window, tickets: &[u32; WINDOW_SLOTS], number: u32) -> HolderAns
 }
 
 // Who holds a number: nobody, a void command, or a command with its ticket and the origin that it still has.
+#[tactic(auto, unfolding(book::specs::Book::book_step, book::specs::Book::reply_to))]
 pub fn holder(s: Session, tickets: &[u32; WINDOW_SLOTS], number: u32) -> HolderAnswer
     ensures { (h : List ℕ) (ss : Statuses)
         → Did (Call.ask (Question.holder number)) (state s (commands h tickets.now) ss)
@@ -85,6 +99,7 @@ pub fn holder(s: Session, tickets: &[u32; WINDOW_SLOTS], number: u32) -> HolderA
 }
 
 // The whole length of the PDU that begins with these bytes. LENGTH under 48 of them, OPCODE, TOOLONG.
+#[tactic(auto, unfolding(book::specs::Book::book_step, book::specs::Book::reply_to))]
 pub fn whole_length(bytes: &[u8]) -> Result<u32, Refusal>
     ensures { (t : State)
         → Did (Call.ask (Question.whole_length bytes.now)) t (length_reply (length_answer_of result)) no_outputs t }

@@ -17,6 +17,13 @@ use task::{OPEN_PLACES, R2tSent, Task};
 
 // Sends an R2T for a task on a connection: its header, with the next StatSN, which it doesn't use up, and both window numbers, into the first 48
 // bytes of out. BUFFER, NOCONN, CLOSED, FIELD as the task's record has it. The R2T is open then; a refusal leaves the arrays.
+#[tactic(auto,
+// The book's step.
+unfolding(book::specs::Book::book_step, book::specs::Book::lending, book::specs::Book::on_connection, book::specs::Book::on_open,
+// The step on an open connection.
+book::specs::Book::transfer_by, book::specs::Book::moved_by,
+// A connection, in the book and in the code.
+book::specs::Book::conn_of, session_state::specs::Agree::ConnAgrees, session_state::specs::After::conn_at))]
 pub fn r2t(
     s: Session,
     conn: u32,
@@ -32,6 +39,8 @@ pub fn r2t(
         (state s k ss) (transferred (r2t_step_of t tags.new ends.new result)) (outputs out.new) (state s k ss))
         × R2TStays result tags.old ends.old tags.new ends.new }
 {
+    // BUFFER, then NOCONN, CLOSED, as in each call that writes a header: a function of both would take one test out of four calls, and need a contract
+    // of its own beside that of `reach`.
     if out.len() < HEADER_BYTES {
         return Err(Refusal::Buffer);
     }

@@ -4,7 +4,7 @@ use mathlib.Core.Path.{◌≡◌, refl, sym, ap, ◌∙◌}
 use mathlib.Core.Bool.{Bool}
 use mathlib.Core.List.{List}
 use lib.ListN.{length}
-use Rattle.std.specs.Prelude.{Result, Ok, Err}
+use Rattle.std.specs.Prelude.{Option, Some, None, Result, Ok, Err}
 use Rattle.refusal.specs.declared.Refusal.{Refusal}
 use Rattle.response_header.specs.declared.Response.{Response}
 use Rattle.response_header.specs.Response.{max_data_length}
@@ -16,14 +16,13 @@ use Rattle.ledger.specs.Book as L
 use Rattle.ledger.specs.Agree.{Statuses, Sends}
 use Rattle.ledger.specs.declared.Ledger.{Ledger}
 use Rattle.ledger.specs.declared.Sent.{Sent}
-use Rattle.ledger.specs.declared.Sent.TheVariants as S
 use Rattle.book.specs.Book.{OpenConnection, with_ledger, live, Book, Outputs, outputs, written, send, Choice, refused, sent, step, with_conn, on_connection, lending, send_as, completed, is_due, send_by, conn_of, book_step}
 use Rattle.book.proofs.Small.{completed-status}
 use Rattle.session_state.specs.declared.Session.{Session}
 use Rattle.session_state.specs.Reach.{IsOpen}
 use Rattle.session_state.specs.Agree.{Did, state}
 use Rattle.session_state.proofs.Steps.{met, refusing, lend-long, reach-open, open_at, ledger-set}
-use Rattle.session_send.specs.Answer.{send_answer, after_send}
+use Rattle.session_send.specs.Answer.{send_answer, after_written, after_send}
 
 pub send-eq : (b : Book) (c t : ℕ) (r : Response) (y : Record) (o : Outputs) (x : Choice)
     → book_step b (send c t r y o) x ≡ lending b o (on_connection b c o (send_by b c t r y o))
@@ -62,13 +61,9 @@ module _ (s : Session) (cs : Commands) (ss : Statuses) (c t : ℕ) (r : Response
     (e m : ℕ) (ee : (b : W.Book) → WA.Agrees (WA.state s.window cs) b → e ≡ W.exp_cmd_sn_of b)
     (em : (b : W.Book) → WA.Agrees (WA.state s.window cs) b → m ≡ W.max_cmd_sn_of b)
     (o : List ℕ) (long : 48 ≤ length o) (o' : List ℕ) (ss' : Statuses) where
-  pub sends : (x : Result Sent Refusal) → Sends c l t w max due e m o ss x o' ss'
-      → Did (send c t r y (outputs o)) (state s cs ss) (send_answer x) (outputs o') (state (after_send s c x) cs ss')
-  sends (Err f) d = rw (d.stays.0, d.stays.1) (refusing _ _ _ (outputs o) refl (λ b g.
-      let v = open_at (state s cs ss) b c l g i in
-      send_at b c t r y o v.book _ long v.near v.is
-      ∙ send-refused b c t r y o v.book max (v.agrees.longest ∙ sym limit) due is w whole _ (d.meets v.book.ledger v.agrees.ledger).answer))
-  sends (Ok (S.NotStored n)) d = rw d.stays.1 (record {
+  wrote : (n : ℕ) (q : Option Ledger) → Sends c l t w max due e m o ss (Ok (record { stat_sn = n; ledger = q })) o' ss'
+      → Did (send c t r y (outputs o)) (state s cs ss) (sent n) (outputs o') (state (after_written s c q) cs ss')
+  wrote n None d = rw d.stays.1 (record {
     meets = λ b g.
         let v = open_at (state s cs ss) b c l g i in
         let k = d.meets v.book.ledger v.agrees.ledger in
@@ -79,7 +74,7 @@ module _ (s : Session) (cs : Commands) (ss : Statuses) (c t : ℕ) (r : Response
     stays = rw (status-given y r w _ whole d.stays.0);
     keeps = record { size = d.out_size; rest = d.out_rest };
   })
-  sends (Ok (S.Stored n q)) d = record {
+  wrote n (Some q) d = record {
     meets = λ b g.
         let v = open_at (state s cs ss) b c l g i in
         let k = d.meets v.book.ledger v.agrees.ledger in
@@ -91,3 +86,11 @@ module _ (s : Session) (cs : Commands) (ss : Statuses) (c t : ℕ) (r : Response
     stays = rw (status-given y r w _ whole d.stays.0) d.stays.1;
     keeps = record { size = d.out_size; rest = d.out_rest };
   }
+
+  pub sends : (x : Result Sent Refusal) → Sends c l t w max due e m o ss x o' ss'
+      → Did (send c t r y (outputs o)) (state s cs ss) (send_answer x) (outputs o') (state (after_send s c x) cs ss')
+  sends (Err f) d = rw (d.stays.0, d.stays.1) (refusing _ _ _ (outputs o) refl (λ b g.
+      let v = open_at (state s cs ss) b c l g i in
+      send_at b c t r y o v.book _ long v.near v.is
+      ∙ send-refused b c t r y o v.book max (v.agrees.longest ∙ sym limit) due is w whole _ (d.meets v.book.ledger v.agrees.ledger).answer))
+  sends (Ok x) d = wrote x.stat_sn x.ledger d

@@ -20,6 +20,11 @@ use task::Task;
 // Sends a response with its ticket on a connection: its header, with the next StatSN and both window numbers, into the
 // first 48 bytes of out. A SCSI Response has its ExpDataSN from the record t. BUFFER, NOCONN, CLOSED, writing's refusals, FIELD for a Data-In, an
 // R2T, or a SCSI Response whose ITT or SNACK tag isn't the record's, FULL.
+#[tactic(auto,
+// The book's step.
+unfolding(book::specs::Book::book_step, book::specs::Book::lending, book::specs::Book::on_connection, book::specs::Book::on_open,
+// A connection, in the book and in the code.
+book::specs::Book::conn_of, session_state::specs::Agree::ConnAgrees, session_state::specs::After::conn_at))]
 pub fn send(
     s: Session,
     conn: u32,
@@ -36,7 +41,8 @@ pub fn send(
         (send_answer result) (outputs out.new)
         (state (after_send s conn result) k (statuses_in statuses.new status_tickets.new)) }
 {
-    // BUFFER, NOCONN, CLOSED in two steps, as in each call that writes a header: a function of their own would save no line.
+    // BUFFER, then NOCONN, CLOSED, as in each call that writes a header: a function of both would take one test out of four calls, and need a contract
+    // of its own beside that of `reach`.
     if out.len() < HEADER_BYTES {
         return Err(Refusal::Buffer);
     }

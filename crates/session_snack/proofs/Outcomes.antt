@@ -2,24 +2,20 @@
 use Prim.Native.Nat.{ℕ, ◌<◌}
 use mathlib.Core.Path.{◌≡◌, refl, sym, ap, ◌∙◌}
 use mathlib.Core.List.{List}
-use Rattle.std.specs.Prelude.{Option, Some, None}
-use Rattle.std.specs.Option.{ok_or}
-use Rattle.refusal.specs.declared.Refusal.TheVariants as F
 use Rattle.request_header.specs.declared.Limits.{Limits}
 use Rattle.request_header.specs.Request.{read_pdu}
 use Rattle.ledger.specs.Book as L
 use Rattle.ledger.specs.Answer as LA
-use Rattle.book.specs.Book.{OpenConnection, live, Book, no_outputs, snack, Choice, Answer, refused, acknowledged, run, resent, step, conn_of, on_connection, step_of_run, Asked, asked, denied_run, from, snack_by, book_step}
+use Rattle.book.specs.Book.{OpenConnection, live, Book, no_outputs, snack, Choice, Answer, refused, acknowledged, run, resent, step, conn_of}
+use Rattle.book.specs.Book.{on_connection, step_of_run, Asked, asked, denied_run, from, snack_by, book_step}
 use Rattle.window.specs.Agree.{Commands}
 use Rattle.ledger.specs.Agree.{Statuses, Agrees}
 use Rattle.ledger.specs.declared.Ledger.{Ledger}
-use Rattle.ledger.specs.declared.Run.{Run}
 use Rattle.session_state.specs.declared.Session.{Session}
 use Rattle.session_state.specs.Limits.{limits_of}
 use Rattle.session_state.specs.Reach.{IsOpen}
 use Rattle.session_state.specs.Agree.{Did, state}
 use Rattle.session_state.proofs.Steps.{met, as_lent, refusing, reach-open, open_at}
-use Rattle.session_snack.specs.Answer.{snack_answer}
 
 pub snack-eq : (b : Book) (c : ℕ) (p : List ℕ) (x : Choice)
     → book_step b (snack c p) x ≡ on_connection b c no_outputs (λ k. snack_by b k.ledger (asked b.given.level (read_pdu k.limits p)))
@@ -61,14 +57,18 @@ module _ (s : Session) (cs : Commands) (ss : Statuses) (c : ℕ) (p : List ℕ) 
       let v = open_at (state s cs ss) b c l g i in
       snack-live b c p v.book _ _ s.level _ v.near v.is v.agrees.limits g.level e ∙ snack-refused b v.book.ledger n)
 
-  pub asks_run : (f n : ℕ) → from f n ≡ asked s.level (read_pdu (limits_of s c) p) → (r : Option Run)
-      → ((b : L.LedgerBook) → Agrees c l ss b → LA.run_answer r ≡ LA.running (L.run_of b f n))
-      → Did (snack c p) (state s cs ss) (snack_answer (ok_or r F.Snack)) no_outputs (state s cs ss)
-  asks_run f n e None h = refusing _ _ 12 no_outputs refl (λ b g.
+  pub asks_none : (f n : ℕ) → from f n ≡ asked s.level (read_pdu (limits_of s c) p)
+      → ((b : L.LedgerBook) → Agrees c l ss b → LA.refused 12 ≡ LA.running (L.run_of b f n))
+      → Did (snack c p) (state s cs ss) (refused 12) no_outputs (state s cs ss)
+  asks_none f n e h = refusing _ _ 12 no_outputs refl (λ b g.
       let v = open_at (state s cs ss) b c l g i in
       snack-live b c p v.book _ _ s.level _ v.near v.is v.agrees.limits g.level e
       ∙ snack-run b v.book.ledger f n _ (h v.book.ledger v.agrees.ledger))
-  asks_run f n e (Some x) h = record {
+
+  pub asks_run : (f n : ℕ) → from f n ≡ asked s.level (read_pdu (limits_of s c) p) → (x y : ℕ)
+      → ((b : L.LedgerBook) → Agrees c l ss b → LA.run x y ≡ LA.running (L.run_of b f n))
+      → Did (snack c p) (state s cs ss) (run x y) no_outputs (state s cs ss)
+  asks_run f n e x y h = record {
     meets = λ b g.
         let v = open_at (state s cs ss) b c l g i in
         met _ _ _ _ _ b b

@@ -19,7 +19,6 @@ use Rattle.ledger.specs.Agree as LA
 use Rattle.ledger.specs.Agree.{Statuses}
 use Rattle.ledger.specs.declared.Ledger.{Ledger}
 use Rattle.book.specs.Book.{OpenConnection, with_ledger, Connection, closed, live, Book, Outputs, outputs, lent, Call, Answer, refused, from_window, Step, step, conn_of, with_window, with_conn, by_window, on_open, on_connection, lending, choice_of, book_step}
-use Rattle.book.proofs.Small.{apart}
 use Rattle.session_state.specs.declared.Conn.{Conn}
 use Rattle.session_state.specs.declared.Session.{Session}
 use Rattle.session_state.specs.After.{no_conn, conn_at, after_window, after_conn, after_ledger}
@@ -62,7 +61,7 @@ reach-none b c o k l = rw (le-ltb c 4 l)
 conn-closed : (c : ℕ) (x : Conn) (ss : Statuses) (k : Connection) → ConnAgrees c x ss k → x.is_open ≡ false → k ≡ closed
 unfolding ConnAgrees
 conn-closed c x ss closed h e = refl
-conn-closed c x ss (live k) h e = absurd (apart h.is_open e)
+conn-closed c x ss (live k) h e = absurd (cc (h.is_open, e))
 
 pub is-closed : (s : State) (b : Book) → Agrees s b → (c : ℕ) → c < 4 → (conn_at s.session c).is_open ≡ false → conn_of b c ≡ closed
 unfolding conn_of
@@ -92,7 +91,7 @@ unfolding conn_of ConnAgrees
 open_at s b c l g i = go (get_or b.conns c closed) refl (g.conns c i.near)
   where
     go : (k : Connection) → get_or b.conns c closed ≡ k → ConnAgrees c (conn_at s.session c) s.statuses (get_or b.conns c closed) → OpenAt s.statuses b c l
-    go closed q n = absurd (apart i.is_open (subst (ConnAgrees c (conn_at s.session c) s.statuses) q n))
+    go closed q n = absurd (cc (i.is_open, subst (ConnAgrees c (conn_at s.session c) s.statuses) q n))
     go (live x) q n =
         let a = subst (ConnAgrees c (conn_at s.session c) s.statuses) q n in
         record {

@@ -1,11 +1,10 @@
--- The book's step at an acknowledgement and a resend, by its outcome.
+-- The book's step at an acknowledgement, and at a resend above level 0, by what the ledger did.
 use Prim.Native.Nat.{ℕ, ◌≤◌, ◌<◌}
-use mathlib.Core.Path.{◌≡◌, refl, sym, ap, ◌∙◌}
-use mathlib.Core.Bool.{Bool, true, false}
-use mathlib.Core.List.{List, ◌++◌}
+use mathlib.Core.Path.{◌≡◌, refl, ◌∙◌}
 use native.Mathlib.Omega.{arith}
-use borrow.Author.Tests.{eq-eqb, ne_eqb}
-use lib.ListN.{length, drop}
+use mathlib.Core.List.{List}
+use borrow.Author.Tests.{ne_eqb}
+use lib.ListN.{length}
 use Rattle.std.specs.Prelude.{Option, Some, None}
 use Rattle.std.specs.Option.{ok_or}
 use Rattle.refusal.specs.declared.Refusal.TheVariants as F
@@ -42,25 +41,17 @@ module _ (b : Book) (y : Record) (o : List ℕ) (x : Renewal) where
   pub shown-missing : (f : L.Found) (z : List ℕ) → ◌≡◌ {A = LA.Showing} (record { answer = Answers.refused 12; bytes = z }) (LA.showing f x o)
       → shown b y (outputs o) f ≡ step (refused 12) (outputs o) b
   unfolding shown LA.showing
-  shown-missing L.missing z q = refl
-  shown-missing (L.found s) z q = let v : ◌≡◌ {A = ℕ} 0 1 = cc (ap (λ (w : LA.Showing). w.answer) q) in absurd (omega arith)
+  shown-missing f z q = grind arith
 
   pub shown-found : (f : L.Found) (t : ℕ) (z : List ℕ) → ◌≡◌ {A = LA.Showing} (record { answer = Answers.resent t; bytes = z }) (LA.showing f x o)
       → x ≡ renewal b y → shown b y (outputs o) f ≡ step (resent t) (outputs z) b
   unfolding shown written LA.showing
-  shown-found L.missing t z q e = let v : ◌≡◌ {A = ℕ} 0 1 = cc (ap (λ (w : LA.Showing). w.answer) q) in absurd (omega arith)
-  shown-found (L.found s) t z q e =
-      let qt : t ≡ s.ticket = cc (ap (λ (w : LA.Showing). w.answer) q) in
-      let qz : z ≡ L.renewed s.header x ++ drop 48 o = ap (λ (w : LA.Showing). w.bytes) q in
-      rw (qt, qz, e)
+  shown-found f t z q e = grind arith
 
-module _ (b : Book) (c n : ℕ) (y : Record) (o : List ℕ) (x : Choice) (k : OpenConnection) (long : 48 ≤ length o) (near : c < 4) (is : conn_of b c ≡ live k) where
+module _ (b : Book) (c n : ℕ) (y : Record) (o : List ℕ) (x : Choice) (k : OpenConnection) (long : 48 ≤ length o) (near : c < 4)
+    (is : conn_of b c ≡ live k) where
   resend-at : book_step b (resend c n y (outputs o)) x ≡ resend_by b n y (outputs o) k
   resend-at = resend-eq b c n y (outputs o) x ∙ lend-long b (outputs o) _ long ∙ reach-open b c (outputs o) _ k near is
-
-  pub resend-none : b.given.level ≡ 0 → book_step b (resend c n y (outputs o)) x ≡ step (refused 12) (outputs o) b
-  unfolding resend_by
-  resend-none e = resend-at ∙ rw (eq-eqb b.given.level 0 e)
 
   pub resend-some : (b.given.level ≡ 0 → ⊥) → book_step b (resend c n y (outputs o)) x ≡ shown b y (outputs o) (L.status_of k.ledger n)
   unfolding resend_by
@@ -68,11 +59,6 @@ module _ (b : Book) (c n : ℕ) (y : Record) (o : List ℕ) (x : Choice) (k : Op
 
 -- what the ledger did is what the session's step does
 module _ (s : Session) (cs : Commands) (ss : Statuses) (c n : ℕ) (y : Record) (l : Ledger) (i : IsOpen s c l) (o : List ℕ) (long : 48 ≤ length o) where
-  pub resend-denied : s.level ≡ 0 → Did (resend c n y (outputs o)) (state s cs ss) (refused 12) (outputs o) (state s cs ss)
-  resend-denied z = refusing _ _ 12 (outputs o) refl (λ b g.
-      let v = open_at (state s cs ss) b c l g i in
-      resend-none b c n y o _ v.book long v.near v.is (sym g.level ∙ z))
-
   pub resends : (s.level ≡ 0 → ⊥) → (x : Renewal) → ((b : Book) → Agrees (state s cs ss) b → x ≡ renewal b y) → (o' : List ℕ) (r : Option ℕ)
       → LA.Resends c l n x ss o r o'
       → Did (resend c n y (outputs o)) (state s cs ss) (resend_answer (ok_or r F.Snack)) (outputs o') (state s cs ss)
@@ -95,21 +81,12 @@ module _ (s : Session) (cs : Commands) (ss : Statuses) (c n : ℕ) (y : Record) 
 module _ (b : Book) (c e : ℕ) (k : OpenConnection) where
   pub acknowledge-stale : Answers.refused 11 ≡ Answers.acknowledging k.ledger e → acknowledge_by b c e k ≡ step (refused 11) no_outputs b
   unfolding acknowledge_by Answers.acknowledging
-  acknowledge-stale q = go (L.is_good k.ledger e) refl
-    where
-      go : (g : Bool) → L.is_good k.ledger e ≡ g → acknowledge_by b c e k ≡ step (refused 11) no_outputs b
-      go true h = let z : ◌≡◌ {A = ℕ} 0 1 = cc (rw h at q) in absurd (omega arith)
-      go false h = rw h
+  acknowledge-stale q = grind arith
 
   pub acknowledge-good : (n : ℕ) → Answers.acknowledged n ≡ Answers.acknowledging k.ledger e
       → acknowledge_by b c e k ≡ step (acknowledged n) no_outputs (with_conn b c (live (with_ledger k (L.released k.ledger e))))
   unfolding acknowledge_by Answers.acknowledging
-  acknowledge-good n q = go (L.is_good k.ledger e) refl
-    where
-      go : (g : Bool) → L.is_good k.ledger e ≡ g
-          → acknowledge_by b c e k ≡ step (acknowledged n) no_outputs (with_conn b c (live (with_ledger k (L.released k.ledger e))))
-      go true h = let p : n ≡ L.place k.ledger e = cc (rw h at q) in rw (h, p)
-      go false h = let z : ◌≡◌ {A = ℕ} 0 1 = cc (rw h at q) in absurd (omega arith)
+  acknowledge-good n q = grind arith
 
 module _ (s : Session) (cs : Commands) (ss : Statuses) (c e : ℕ) (l : Ledger) (i : IsOpen s c l) where
   pub acknowledges : (r : Option Released) → ((b : L.LedgerBook) → LA.Agrees c l ss b → LA.AcknowledgesAt c ss r b e)

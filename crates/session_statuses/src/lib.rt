@@ -17,6 +17,13 @@ use store::HEADER_BYTES;
 use task::Task;
 
 // Acknowledges the statuses of a connection before an ExpStatSN, with their count. NOCONN, CLOSED, STALE.
+#[tactic(auto,
+// The book's step.
+unfolding(book::specs::Book::book_step, book::specs::Book::lending, book::specs::Book::on_connection, book::specs::Book::on_open,
+// The step on an open connection.
+book::specs::Book::acknowledge_by,
+// A connection, in the book and in the code.
+book::specs::Book::conn_of, session_state::specs::Agree::ConnAgrees, session_state::specs::After::conn_at))]
 pub fn acknowledge(s: Session, conn: u32, exp_stat_sn: u32) -> Result<Released, Refusal>
     ensures { (k : Commands) (ss : Statuses)
         → Did (Call.acknowledge conn exp_stat_sn) (state s k ss) (acknowledge_answer result) no_outputs (state (after_acknowledge s conn result) k ss) }
@@ -27,6 +34,13 @@ pub fn acknowledge(s: Session, conn: u32, exp_stat_sn: u32) -> Result<Released, 
 
 // Resends a held status of a connection, with its ticket: its header, with the window numbers of now and, of a SCSI Response, what the record t has of
 // its task, into the first 48 bytes of out. BUFFER, NOCONN, CLOSED, SNACK at level 0 or where the number is not held.
+#[tactic(auto,
+// The book's step.
+unfolding(book::specs::Book::book_step, book::specs::Book::lending, book::specs::Book::on_connection, book::specs::Book::on_open,
+// The step on an open connection.
+book::specs::Book::resend_by,
+// A connection, in the book and in the code.
+book::specs::Book::conn_of, session_state::specs::Agree::ConnAgrees, session_state::specs::After::conn_at))]
 pub fn resend(
     s: Session,
     conn: u32,
@@ -42,7 +56,8 @@ pub fn resend(
         (resend_answer result) (outputs out.new)
         (state s k (statuses_in statuses.now status_tickets.now)) }
 {
-    // BUFFER, NOCONN, CLOSED in two steps, as in each call that writes a header: a function of their own would save no line.
+    // BUFFER, then NOCONN, CLOSED, as in each call that writes a header: a function of both would take one test out of four calls, and need a contract
+    // of its own beside that of `reach`.
     if out.len() < HEADER_BYTES {
         return Err(Refusal::Buffer);
     }

@@ -20,10 +20,11 @@ fn conn_of(is_open: u32, next: u32, held: u32) -> Conn
 }
 
 // Whether a connection is open, as a word.
+#[tactic(auto, using(words::proofs::Flags::as_word))]
 pub fn open_word(k: Conn) -> u32
     ensures { result ≡ flag_word k.is_open }
 {
-    if k.is_open { 1 } else { 0 }
+    u32::from(k.is_open)
 }
 
 // The six maps of a window.
@@ -60,7 +61,7 @@ fn conns_of(n: &[u32; 15]) -> [Conn; CONNS]
     ]
 }
 
-// The session that the numbers and the maps are.
+// The session that the numbers and the maps are. They travel apart, since they are two arrays of C's `drawbevel_session`.
 pub fn load(n: &[u32; 15], m: &[u64; 6]) -> Session
     ensures { result ≡ session_of n.now m.now }
 {

@@ -5,7 +5,8 @@ ghost use Rattle.std.specs.Prelude.{◌≡◌};
 ghost use Rattle.response_words.specs.ResponseWords.{scsi_response_of, task_management_response_of};
 
 use response_header::{Response, ScsiResponse, TaskManagementResponse};
-use response_words::{Unfit, WIDE_8, WIDE_32};
+use response_words::{Unfit, WIDE_32};
+use words::WIDE_8;
 
 pub fn scsi_response(w: &[u64; 10]) -> Result<Response, Unfit>
     ensures { result ≡ scsi_response_of w.now }

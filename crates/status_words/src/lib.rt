@@ -11,7 +11,7 @@ ghost use Rattle.task_words.specs.TaskWords.{task_words, record_in};
 ghost use Rattle.call_words.specs.Session.{session_words, Said};
 
 use answer_words::DONE;
-use ledger::Released;
+use ledger::{LEDGER_BYTES, LEDGER_SLOTS, Released};
 use session_changes::store_ledger;
 use session_words::load;
 
@@ -51,8 +51,8 @@ pub fn snack(n: &[u32; 15], m: &[u64; 6], conn: u32, pdu: &[u8], answer: &mut [u
 pub fn resend(
     n: &[u32; 15],
     m: &[u64; 6],
-    statuses: &[u8; 6144],
-    status_tickets: &[u32; 128],
+    statuses: &[u8; LEDGER_BYTES],
+    status_tickets: &[u32; LEDGER_SLOTS],
     task: &[u32; 12],
     wide: &[u64; 4],
     conn: u32,

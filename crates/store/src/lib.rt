@@ -10,7 +10,8 @@ ghost use Rattle.store.specs.Slot.{header_size};
 pub use field::HEADER_BYTES;
 
 // Writes the first 48 bytes of a header into the bytes from `at` on. By way of an array of its own, so that the two copies are each of memory
-// that nothing else refers to, and compile to a few wide moves.
+// that nothing else refers to, and compile to a few wide moves. What is lent is a slice here and in all calls above: C lends any length from 48 on, whose
+// bytes after the header stay, and an array would ask for exactly 48.
 pub fn put(headers: &mut [u8], at: usize, header: &[u8])
     requires { (at + header_size ≤ length headers.old) × (header_size ≤ length header.now) }
     ensures { headers.new ≡ paste headers.old at header.now header_size }

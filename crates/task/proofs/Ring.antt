@@ -3,9 +3,8 @@ use Prim.Native.Nat.{ℕ, zero, suc, ◌+◌, ◌-◌, ◌%◌, ◌<◌}
 use mathlib.Core.Path.{◌≡◌, refl, ap}
 use mathlib.Core.List.{List, [], ◌∷◌, ◌++◌}
 use native.Mathlib.Omega.{arith}
-use lib.ListN.{length, get_or, set}
+use lib.ListN.{length, set}
 use lib.Seq.{get_or-set_same, get_or-set_other}
-use Rattle.task_book.specs.Record.{OpenR2T}
 use Rattle.task.specs.Agree.{place_of, open_of}
 
 pub open-length : (ts es : List ℕ) (i n : ℕ) → length (open_of ts es i n) ≡ n
@@ -44,4 +43,10 @@ pub open-push : (ts es : List ℕ) (i n t e : ℕ) → length ts ≡ 8 → lengt
 open-push ts es i n t e p q h =
     let j = (i + n) % 8 in
     let apart : (k : ℕ) → k < n → (i + k) % 8 ≡ (i + n) % 8 → ⊥ = λ k l z. omega arith in
-    rw (open-latest (set ts j t) (set es j e) i n, open-other ts es i n j t e apart, get_or-set_same ts j t 0 (omega arith), get_or-set_same es j e 0 (omega arith))
+    rw (
+      open-latest (set ts j t) (set es j e) i n,
+      open-other ts es i n j t e apart,
+      get_or-set_same ts j t 0 (omega arith),
+      get_or-set_same es j e 0
+          (omega arith),
+    )

@@ -1,18 +1,17 @@
 -- The count sent of a record that its calls made fits 32 bits, and no more is acknowledged than was sent.
-use Prim.Native.Nat.{ℕ, ◌+◌, ◌^◌, ◌≤◌, ◌<◌}
+use Prim.Native.Nat.{ℕ, ◌^◌, ◌≤◌, ◌<◌}
 use mathlib.Core.Path.{◌≡◌, refl, subst}
 use mathlib.Core.Bool.{Bool, true, false, ◌&&◌}
 use mathlib.Core.List.{List, [], ◌∷◌}
 use native.Mathlib.Omega.{arith}
-use borrow.Author.Tests.{leb-true, ltb-true, ltb-false}
+use borrow.Author.Tests.{leb-true}
 use lib.Dec.{eqb, leb, ltb}
 use Rattle.field.specs.Field.{pick}
 use Rattle.request_header.specs.declared.DataOut.{DataOut}
 use Rattle.request_header.specs.declared.Snack.{Snack}
 use Rattle.task_book.specs.declared.TaskGiven.{TaskGiven}
-use Rattle.task_book.specs.declared.Numbering.{Numbering}
-use Rattle.task_book.specs.Record.{OpenR2T, Record, last_number, fresh_record, given_ok, Making, refused, made, making}
-use Rattle.task_book.specs.Steps.{Step, refuse, data_in_ok, after_data_in, numbered, data_in_step, r2t_ok, r2t_step, data_out_ok, data_out_at, data_out_step, data_run, data_acknowledged, data_restarted, snack_ok, data_snack_by, data_snack_step, acknowledged_to, restarted_at, after_r2t, after_data_out, exp_data_sn_of}
+use Rattle.task_book.specs.Record.{OpenR2T, Record, last_number, fresh_record, given_ok, refused, made, making}
+use Rattle.task_book.specs.Steps.{refuse, data_in_ok, after_data_in, numbered, data_in_step, r2t_ok, r2t_step, data_out_ok, data_out_at, data_out_step, data_run, data_acknowledged, data_restarted, snack_ok, data_snack_by, data_snack_step, acknowledged_to, restarted_at, after_r2t, after_data_out, exp_data_sn_of}
 use Rattle.task_book.specs.History.{DataCall, step_of}
 use Rattle.task_book.proofs.Tests.{data-in-fits, r2t-fits}
 
@@ -30,7 +29,7 @@ bounded-made g n {x} e = go (given_ok g) e
   where
     go : (u : Bool) → pick u (made (fresh_record g n)) (refused 3) ≡ made x → Bounded x
     go true q = let r : fresh_record g n ≡ x = cc in subst Bounded r (bounded-fresh g n)
-    go false q = let z : ◌≡◌ {A = ℕ} 0 1 = cc in absurd (omega arith)
+    go false q = absurd cc
 
 module _ (x : Record) (b : Bounded x) where
   by-data-in : (f a : Bool) (len : ℕ) → Bounded (data_in_step x f a len).after

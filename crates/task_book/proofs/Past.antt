@@ -120,7 +120,8 @@ map_more (q ∷ qs) h = ap (λ (l : List OpenR2T). open_as q ∷ l) (map_more qs
 
 module _ (g : TaskGiven) (n : ℕ) (past : List Effect) (x : Record) (i : Inv g n past x) where
   pub inv-none : Inv g n (Effect.none ∷ past) x
-  unfolding number_due started_from sent_since highest_beg_run latest_tag any_data_in_of next_offset burst_so_far asked_to came_to r2ts_sent answered data_outs_since
+  unfolding number_due started_from sent_since highest_beg_run latest_tag any_data_in_of next_offset burst_so_far asked_to came_to r2ts_sent answered
+      data_outs_since
   inv-none = record { given = i.given; numbers = i.numbers; data_in = i.data_in; data_out = i.data_out; open_r2ts = i.open_r2ts }
 
   pub inv-data-in : (f a : Bool) (len : ℕ) → Inv g n (sends_data_in (data_in_header x f a len) ∷ past) (after_data_in x f len)
@@ -187,7 +188,8 @@ module _ (g : TaskGiven) (n : ℕ) (past : List Effect) (x : Record) (i : Inv g 
     pub inv-part : (p : DataOut) (len : ℕ) → p.is_final ≡ false → p.buffer_offset ≡ x.data_out.came → x.data_out.came + len < end_of q
         → Inv g n (takes p len ∷ past) (after_data_out x (map open_as rest) p.is_final len)
     unfolding after_data_out still_open Reaches
-        number_due started_from sent_since highest_beg_run latest_tag any_data_in_of next_offset burst_so_far asked_to came_to r2ts_sent answered data_outs_since
+        number_due started_from sent_since highest_beg_run latest_tag any_data_in_of next_offset burst_so_far asked_to came_to r2ts_sent answered
+        data_outs_since
     inv-part p len f o l = rw f (record {
       given = i.given;
       numbers = i.numbers;
@@ -208,7 +210,8 @@ module _ (g : TaskGiven) (n : ℕ) (past : List Effect) (x : Record) (i : Inv g 
     pub inv-whole : (p : DataOut) (len : ℕ) → p.is_final ≡ true → p.buffer_offset ≡ x.data_out.came → x.data_out.came + len ≡ end_of q
         → Inv g n (takes p len ∷ past) (after_data_out x (map open_as rest) p.is_final len)
     unfolding after_data_out still_open Reaches
-        number_due started_from sent_since highest_beg_run latest_tag any_data_in_of next_offset burst_so_far asked_to came_to r2ts_sent answered data_outs_since
+        number_due started_from sent_since highest_beg_run latest_tag any_data_in_of next_offset burst_so_far asked_to came_to r2ts_sent answered
+        data_outs_since
     inv-whole p len f o l = rw f (record {
       given = i.given;
       numbers = i.numbers;
@@ -246,7 +249,8 @@ module _ (g : TaskGiven) (n : ℕ) (past : List Effect) (x : Record) (i : Inv g 
       go false e = omega (arith, i.numbers.acked, ltb-false x.numbering.acknowledged b e)
 
   pub inv-restart : (o t : ℕ) → Inv g n (restarts o t ∷ past) (restarted_at x o t)
-  unfolding restarted_at number_due started_from sent_since highest_beg_run latest_tag any_data_in_of next_offset burst_so_far asked_to came_to r2ts_sent answered data_outs_since
+  unfolding restarted_at number_due started_from sent_since highest_beg_run latest_tag any_data_in_of next_offset burst_so_far asked_to came_to r2ts_sent
+      answered data_outs_since
   inv-restart o t = record {
     given = i.given;
     numbers = record { sent = omega (arith, i.numbers.acked); acked = i.numbers.acked; any = i.numbers.any; snack_tag = refl; ordered = omega arith };

@@ -83,7 +83,7 @@ module _ (g : TaskGiven) (n : ℕ) (past : List Effect) (e : Event) where
     comes_on = λ p len q. (by-effect q).order;
     data_out_sn = λ p len q. (by-effect q).number;
     lies_in = λ p len to later q o. let d : OfDataOut n past p len = by-effect q in subst (LiesIn p len) (oldest d o) d.lies;
-    solicited = λ p len q o. let d : OfDataOut n past p len = by-effect q in let z : ◌≡◌ {A = ℕ} 0 1 = cc d.oldest in omega arith;
+    solicited = λ p len q o. let d : OfDataOut n past p len = by-effect q in cc d.oldest;
     burst_in = λ h q. (by-effect q).burst;
     burst_out = λ h q. (by-effect q).burst;
     final = λ p len to later q o.
@@ -205,7 +205,7 @@ module _ (g : TaskGiven) (n : ℕ) (past : List Effect) (x : Record) (i : Inv g 
       go false f k =
           let l : x.data_out.came + len < end_of q = ltb-true _ _ k in
           goes (subst (Inv g n (takes p len ∷ past)) (sym ey) (inv-part g n past x i q rest e p len f d.offset l)) (omega (arith, d.offset))
-          (λ z. let w : ◌≡◌ {A = ℕ} 0 1 = cc in absurd (omega arith), λ z. absurd (omega (arith, d.offset)))
+          (λ z. absurd cc, λ z. absurd (omega (arith, d.offset)))
 
   goes-data-out : (t : ℕ) (p : DataOut) (len : ℕ) → Goes (DataCall.data_out t p len) (data_out_step x t p len)
   unfolding data_out_step still_open
@@ -233,7 +233,7 @@ module _ (g : TaskGiven) (n : ℕ) (past : List Effect) (x : Record) (i : Inv g 
     run-goes e f k low high = record {
       inv = rw e (inv-none g n past x i);
       says = rw e tt;
-      tells = record { low = low; high = high; all = λ w z q. let r = rw e at q in let y : ◌≡◌ {A = ℕ} 0 1 = cc in absurd (omega arith) };
+      tells = record { low = low; high = high; all = λ w z q. let r = rw e at q in absurd cc };
     }
 
     from_goes : eqb p.snack_type 0 ≡ true → (b m : ℕ) → Goes call (step (run_from x b m) x)
@@ -332,16 +332,13 @@ module _ (g : TaskGiven) (n : ℕ) (past : List Effect) (x : Record) (i : Inv g 
   unfolding exp_data_sn_of
   expects r k e = go (eqb r 0) x.numbering.any_data_in refl refl e
     where
-      apart : {t : Bool} → t ≡ true → t ≡ false → ⊥
-      apart a b = let z : ◌≡◌ {A = ℕ} 0 1 = cc in omega arith
-
       go : (a b : Bool) → eqb r 0 ≡ a → x.numbering.any_data_in ≡ b → k ≡ pick (a && b) x.numbering.sent 0 → Expects past r k
       go true true a b e = record {
         count = λ z w. e ∙ i.numbers.sent;
-        zero = ⊎_elim (λ z. absurd (z (eqb-true r 0 a))) (λ z. absurd (apart b (i.numbers.any ∙ z)));
+        zero = ⊎_elim (λ z. absurd (z (eqb-true r 0 a))) (λ z. absurd (cc (b, i.numbers.any ∙ z)));
       }
-      go true false a b e = record { count = λ z w. absurd (apart (i.numbers.any ∙ w) b); zero = λ z. e }
-      go false b a z e = record { count = λ y w. absurd (apart (eq-eqb r 0 y) a); zero = λ y. e }
+      go true false a b e = record { count = λ z w. absurd (cc (i.numbers.any ∙ w, b)); zero = λ z. e }
+      go false b a z e = record { count = λ y w. absurd (cc (eq-eqb r 0 y, a)); zero = λ y. e }
 
 -- ---- from the making of the record
 
@@ -359,7 +356,7 @@ each-says g n past {x = x} i (responds {r = r} {n = k} e q) =
     let later = each-says g n (Effect.none ∷ past) j q in (
       (
         sentences g n past (responded r k) tt (expects g n past x i r k e) j.open_r2ts.few
-            (λ d a z. let w : ◌≡◌ {A = ℕ} 0 1 = cc in absurd (omega arith)),
+            (λ d a z. absurd cc),
         later.0,
       ),
       later.1,
@@ -371,7 +368,7 @@ made-is g n {x = x} m = go (given_ok g) m
   where
     go : (t : Bool) → pick t (made (fresh_record g n)) (Making.refused 3) ≡ made x → Inv g n [] x
     go true e = let q : fresh_record g n ≡ x = cc in subst (Inv g n []) q (inv-fresh g n)
-    go false e = let z : ◌≡◌ {A = ℕ} 0 1 = cc in absurd (omega arith)
+    go false e = absurd cc
 
 -- the data sentences of every list of calls on a task, from the record that its making answered
 pub data-sentences : (g : TaskGiven) (n : ℕ) {x y : Record} {es : List Event} → making g n ≡ made x → Ran x es y → DataPhases g n es

@@ -1,7 +1,7 @@
 -- Request L1: the calls that move data, on a task's record. Each comes after the refusals of the connection and those of reading or writing; what is
 -- stated here is FIELD, of a data SNACK also SNACK, and else the answer and the record after it. Every record, also one that no call made, gets
 -- its answer.
-use Rattle.std.specs.Prelude.{ℕ, ◌+◌, ◌-◌, ◌^◌, Bool, true, false, not, ◌&&◌, ◌||◌, List, [], ◌∷◌, ◌++◌, eqb, leb, ltb, length}
+use Rattle.std.specs.Prelude.{ℕ, ◌+◌, ◌-◌, Bool, true, false, not, ◌&&◌, ◌||◌, List, [], ◌∷◌, ◌++◌, eqb, leb, ltb, length}
 use Rattle.field.specs.Field.{pick, none}
 use Rattle.request_header.specs.declared.DataOut.{DataOut}
 use Rattle.request_header.specs.declared.Snack.{Snack}

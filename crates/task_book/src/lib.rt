@@ -22,7 +22,7 @@ pub struct Numbering {
     pub acknowledged: u32,
     // Whether a Data-In was ever sent.
     pub any_data_in: bool,
-    // The tag of the latest SNACK of type 3; 0 until one comes.
+    // The tag of the latest SNACK of type 3; 0 until one comes, and no Option: `with_tag` and `is_due` test it, and it is a word of C's record.
     pub snack_tag: u32,
 }
 

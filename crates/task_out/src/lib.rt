@@ -13,6 +13,11 @@ use task_book::DataOutSequence;
 
 // Takes a Data-Out that answers the oldest open R2T: where its data lies. With F that R2T is answered whole, and no longer open. FIELD where none is
 // open, and as `data_out_ok` says.
+#[tactic(auto, using(crate::proofs::Laws::ring),
+// The rules.
+unfolding(task_book::specs::Steps::data_out_step, task_book::specs::Steps::after_data_out,
+// The open R2Ts.
+task::specs::Agree::open_of))]
 pub fn data_out(
     t: Task,
     tags: &[u32; OPEN_PLACES],

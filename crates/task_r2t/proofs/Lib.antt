@@ -1,2 +1,2 @@
--- The law that the proof of `r2t` cites.
+-- Laws that the proofs of `r2t` and `r2t_ok` cite.
 pub mod Laws

@@ -2,8 +2,6 @@
 #![tactic(auto)]
 
 ghost use Rattle.std.specs.Prelude.{◌≡◌, List, ℕ};
-ghost use Rattle.std.proofs.Math.ListN as Length;
-ghost use Rattle.task_book.specs.Record.{open_places};
 ghost use Rattle.task_book.specs.Steps.{r2t_ok};
 ghost use Rattle.task.specs.Agree.{record_of, R2TDone};
 ghost use Rattle.task_r2t.specs.R2T.{R2TFits, Opened, R2TSent};
@@ -36,6 +34,7 @@ pub fn r2t(
 
 // Whether an R2T may be sent: its tag isn't reserved, its length is within 1 and MaxBurstLength, what it asks for ends by 2^32, fewer than
 // MaxOutstandingR2T are open, and a number is left for it.
+#[tactic(auto, using(crate::proofs::Laws::told), unfolding(task_book::specs::Steps::r2t_ok))]
 fn r2t_ok(t: Task, tag: u32, length: u32) -> bool
     ensures { (tags ends : List ℕ) → result ≡ r2t_ok (record_of t tags ends) tag length }
 {
@@ -51,6 +50,13 @@ fn r2t_ok(t: Task, tag: u32, length: u32) -> bool
 }
 
 // The answer to an R2T that is sent, once it is opened in the arrays.
+#[tactic(auto,
+// What is promised.
+unfolding(crate::specs::R2T::R2TSent, crate::specs::R2T::Opened,
+// The rules.
+task_book::specs::Steps::r2t_step, task_book::specs::Steps::r2t_header, task_book::specs::Steps::after_r2t,
+// And more of it.
+task_book::specs::Steps::numbered))]
 fn r2t_sent(t: Task, tag: u32, length: u32) -> R2tSent
     requires { R2TFits t length }
     ensures { R2TSent t tag length result }
@@ -80,8 +86,14 @@ fn r2t_sent(t: Task, tag: u32, length: u32) -> R2tSent
 }
 
 // Opens an R2T: one more, at the place after the latest.
-fn push(t: Task, tag: u32, length: u32, tags: &mut [u32], ends: &mut [u64])
-    requires { R2TFits t length × ((Length.length tags.old ≡ open_places) × (Length.length ends.old ≡ open_places)) }
+fn push(
+    t: Task,
+    tag: u32,
+    length: u32,
+    tags: &mut [u32; OPEN_PLACES],
+    ends: &mut [u64; OPEN_PLACES],
+)
+    requires { R2TFits t length }
     ensures { Opened t tag length tags.old ends.old tags.new ends.new }
 {
     let s = t.data_out;

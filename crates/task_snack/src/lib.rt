@@ -7,16 +7,9 @@ ghost use Rattle.task.specs.Agree.{record_of, data_snack_step_of};
 
 use field::NONE;
 use refusal::Refusal;
-use request_header::Snack;
+use request_header::{SNACK_DATA_ACK, SNACK_DATA_OR_R2T, SNACK_STATUS, Snack};
 use task::{DataSnackAnswer, Task};
 use task_book::{DataInSequence, Numbering};
-
-// Types of a SNACK, as its header's number: an enum would only be made of it to be matched once.
-const DATA_OR_R2T: u8 = 0;
-
-const STATUS: u8 = 1;
-
-const DATA_ACK: u8 = 2;
 
 // A SNACK for a task's data: the run that is asked for, the numbers that a DataACK acknowledges, or all that is sent anew from this offset on.
 // FIELD as `snack_ok` says; then SNACK at ErrorRecoveryLevel 0, and where the run isn't wholly sent and not acknowledged.
@@ -38,10 +31,10 @@ pub fn data_snack(
         return DataSnackAnswer::from(Refusal::Snack);
     }
     // By tests: a match compiles to a table of jumps, here and in `snack_ok`, and a SNACK took 22.6 ns and not 17.8.
-    if p.snack_type == DATA_OR_R2T {
+    if p.snack_type == SNACK_DATA_OR_R2T {
         return data_run(t, p.beg_run, p.run_length);
     }
-    if p.snack_type == DATA_ACK {
+    if p.snack_type == SNACK_DATA_ACK {
         return data_acknowledged(t, p.beg_run);
     }
     data_restarted(t, offset, p)
@@ -54,15 +47,15 @@ fn snack_ok(t: Task, initiator_task_tag: u32, p: Snack) -> bool
 {
     let given = t.given;
     let tag = p.target_transfer_tag;
-    if p.snack_type == DATA_ACK {
+    if p.snack_type == SNACK_DATA_ACK {
         (tag == given.transfer_tag) & (tag != NONE)
     } else {
-        (p.snack_type != STATUS) & (initiator_task_tag == given.initiator_task_tag)
+        (p.snack_type != SNACK_STATUS) & (initiator_task_tag == given.initiator_task_tag)
     }
 }
 
 // The run that type 0 asks for, of the numbers sent and not acknowledged. BegRun and RunLength both 0 ask for all of them; else BegRun must
-// be one, and RunLength 0 means from there to the end.
+// be one, and RunLength 0 means from there to the end. Not one function with `ledger_held::run_of`: a ledger's numbers wrap, a task's don't.
 #[tactic(auto, unfolding(task_book::specs::Steps::data_run, task_book::specs::Steps::run_from))]
 fn data_run(t: Task, beg_run: u32, run_length: u32) -> DataSnackAnswer
     ensures { (tags ends : List ℕ) → data_snack_step_of t tags ends result ≡ data_run (record_of t tags ends) beg_run run_length }

@@ -8,7 +8,7 @@ ghost use Rattle.task_words.specs.TaskWords.{task_of, task_numbers, task_wide};
 use task::Task;
 use task_book::{DataInSequence, DataOutSequence, Numbering, TaskGiven};
 
-// The record that the words are.
+// The record that the words are. The two arrays travel apart, since they are two of C's `drawbevel_task`.
 #[tactic(auto, unfolding(crate::specs::TaskWords::task_of))]
 pub fn load(n: &[u32; 12], w: &[u64; 4]) -> Task
     ensures { result ≡ task_of n.now w.now }
@@ -52,7 +52,7 @@ pub fn store(n: &mut [u32; 12], w: &mut [u64; 4], t: Task)
         t.given.max_outstanding_r2t,
         t.numbering.sent,
         t.numbering.acknowledged,
-        t.numbering.any_data_in as u32,
+        u32::from(t.numbering.any_data_in),
         t.numbering.snack_tag,
         t.data_in.burst,
         t.data_out.data_sn,

@@ -1,18 +1,18 @@
 -- What one turn of a loop over a text does to the definitions that read it from the front.
 use mathlib.Core.Path.{◌≡◌, refl, sym, ap, ◌∙◌, ap₂}
 use mathlib.Core.Bool.{Bool, true, false, not, ◌&&◌, ◌||◌}
-use mathlib.Core.List.{List, [], ◌∷◌, ◌++◌, append_assoc, append-nil}
+use mathlib.Core.List.{List, [], ◌∷◌, ◌++◌, append_assoc}
 use Prim.Native.Nat.{ℕ, zero, suc, ◌+◌, ◌-◌, ◌<◌, ◌≤◌}
 use native.Mathlib.Numerals.{add-one}
 use native.Mathlib.Omega.{arith}
-use native.Mathlib.Nat.{not-suc-le-zero, add_assoc, zero-add}
-use borrow.Author.Tests.{ne_eqb, eqb-true, eqb-false, lt-ltb, le-ltb, leb-true}
-use lib.ListN.{length, get_or, take, drop, set, drop_of_length-le, length-drop, length-append, take-append-drop}
-use lib.Seq.{drop-cons, drop-drop, take_all, drop-set-lt, take-suc-set}
-use lib.Dec.{eqb, ltb, leb, leb-suc-suc}
+use native.Mathlib.Nat.{not-suc-le-zero, add_assoc}
+use borrow.Author.Tests.{ne_eqb, eqb-true, eqb-false, lt-ltb, le-ltb}
+use lib.ListN.{length, get_or, take, drop, drop_of_length-le, length-drop, length-append, take-append-drop}
+use lib.Seq.{drop-cons, drop-drop, take_all}
+use lib.Dec.{eqb, ltb, leb-suc-suc}
 use Rattle.std.proofs.lemmas.Slice.Eq.{bytes_eq-Decides}
 use Rattle.text.proofs.Words.{same_is_bytes_eq}
-use Rattle.text.specs.Text.{pick, before, after, has, same, all, Appended, within}
+use Rattle.text.specs.Text.{pick, before, after, has, same, all, Appended}
 
 pub drop-step : (s : List ℕ) (i : ℕ) → i < length s → drop i s ≡ get_or s i 0 ∷ drop (i + 1) s
 drop-step s i h = rw (add-one, drop-cons s i 0)
@@ -33,10 +33,6 @@ module _ (f : ℕ → Bool) (s : List ℕ) (i : ℕ) where
   unfolding all
   all_end h = rw (drop-end s i h)
 
-pub &&-true : (a : Bool) → (a && true) ≡ a
-&&-true true = refl
-&&-true false = refl
-
 pub &&-false : (a : Bool) → (a && false) ≡ false
 &&-false true = refl
 &&-false false = refl
@@ -44,9 +40,6 @@ pub &&-false : (a : Bool) → (a && false) ≡ false
 pub &&-left : (a b : Bool) → (a && b) ≡ true → a ≡ true
 &&-left true b e = refl
 &&-left false b e = e
-
-pub within_low : (a b x : ℕ) → within a b x ≡ true → a ≤ x
-within_low a b x e = leb-true a x (&&-left (leb a x) (leb x b) e)
 
 -- what &s[a..] is
 pub rest_part : (a : ℕ) (s : List ℕ) → take (length s - a) (drop a s) ≡ drop a s
@@ -119,14 +112,6 @@ at f (suc n) e k h = at-go f n k (&&-left (f n) (below f n) e) (at f n (&&-right
 pub same-eq : (a b : List ℕ) → same a b ≡ true → a ≡ b
 same-eq a b e = (bytes_eq-Decides a b).0 (sym (same_is_bytes_eq a b) ∙ e)
 
--- Nothing was put.
-pub appended-none : (o : List ℕ) (at : ℕ) → Appended o at [] o at
-appended-none o at = record { count = omega arith; text = sym (append-nil (take at o)); rest = refl }
-
--- One byte was put.
-pub appended_one : (o : List ℕ) (at x : ℕ) → at < length o → Appended o at (x ∷ []) (set o at x) (at + 1)
-appended_one o at x h = record { count = refl; text = rw add-one (take-suc-set o at x h); rest = drop-set-lt (at + 1) o at x (omega arith) }
-
 -- What is behind stays, also where something was put before.
 pub appended-rest : (o : List ℕ) {p b q : List ℕ} {m n : ℕ} → Appended p m b q n → drop m p ≡ drop m o → drop n q ≡ drop n o
 appended-rest o {p} {b} {q} {m} {n} y e = y.rest ∙ (rw y.count (sym (drop-drop (length b) m p) ∙ ap (drop (length b)) e ∙ drop-drop (length b) m o))
@@ -139,16 +124,10 @@ appended_then {o} {a} {p} {b} {q} {at} {m} {n} x y = record {
   rest = appended-rest o y x.rest;
 }
 
--- The whole output after an appending, and after one at its front.
+-- The whole output after an appending.
 pub appended-whole : {o b p : List ℕ} {at r : ℕ} → Appended o at b p r → p ≡ (take at o ++ b) ++ drop (at + length b) o
 appended-whole {o} {b} {p} {at} {r} x =
     sym (take-append-drop r p) ∙ ap₂ (λ (u v : List ℕ). u ++ v) x.text (x.rest ∙ ap (λ (n : ℕ). drop n o) x.count)
-
-pub appended-front : {o b p : List ℕ} {r : ℕ} → Appended o 0 b p r → p ≡ b ++ drop (length b) o
-appended-front {o} {b} {p} {r} x = appended-whole x ∙ ap (λ (n : ℕ). b ++ drop n o) (zero-add (length b))
-
-pub appended-text : {o b p : List ℕ} {r : ℕ} → Appended o 0 b p r → take (length b) p ≡ b
-appended-text {o} {b} {p} {r} x = ap (λ (n : ℕ). take n p) (sym (zero-add (length b)) ∙ sym x.count) ∙ x.text
 
 -- A choice in the definition's order: past one that does not hold, and at one that does.
 pub past {ℓ} : {A : Type ℓ} (b : Bool) (x y z : A) → b ≡ false → y ≡ z → pick b x y ≡ z

@@ -2,7 +2,7 @@
 ghost use Rattle.std.specs.Prelude.{◌≡◌, ◌+◌, ◌≤◌, length};
 ghost use Rattle.text.specs.Text.{before, same, listed, Appended};
 
-// The place of the first x, or the length where there is none.
+// The place of the first x, or the length where there is none: a place and no Option, for `before` is the whole text then.
 pub fn find(s: &[u8], x: u8) -> usize
     ensures { (result ≡ length (before x s.now)) × (result ≤ length s.now) }
 {
@@ -24,7 +24,8 @@ pub fn lists(s: &[u8], w: &[u8]) -> bool
     s.split(|b| *b == b',').any(|item| item == w)
 }
 
-// Puts b after the first `at` bytes of an output, and gives the new count.
+// Puts b after the first `at` bytes of an output, and gives the new count. The count stands apart from the output here and in all that
+// answer into one: a struct that holds a lent slice would have to say in each contract that it is still the slice that was lent.
 #[tactic(auto, using(std::proofs::lemmas::Slice::overwrites))]
 pub fn append(out: &mut [u8], at: usize, b: &[u8]) -> usize
     requires { at + length b.now ≤ length out.old }

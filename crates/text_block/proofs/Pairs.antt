@@ -1,6 +1,6 @@
 -- The first pair of a text, and one turn of a loop over the pairs.
 use mathlib.Core.Path.{◌≡◌, refl, sym, ap, ◌∙◌}
-use mathlib.Core.Bool.{Bool, true, false, ◌&&◌, ◌||◌}
+use mathlib.Core.Bool.{Bool, true, false, ◌&&◌}
 use mathlib.Core.List.{List, [], ◌∷◌, ◌++◌}
 use Prim.Native.Nat.{ℕ, zero, suc, ◌+◌, ◌-◌, ◌<◌, ◌≤◌}
 use native.Mathlib.Numerals.{add-one}
@@ -10,6 +10,7 @@ use borrow.Author.Tests.{eq-eqb, ne_eqb, le-leb, leb-true, ltb-true}
 use lib.ListN.{length, get_or, take, drop, length-drop}
 use lib.Seq.{drop-drop}
 use lib.Dec.{leb, eqb}
+use Rattle.std.proofs.Math.Bool.{or-false}
 use Rattle.std.proofs.lemmas.Bool.Decides.{nat_tests}
 use Rattle.text.specs.Text.{before, after, has, all}
 use Rattle.text_block.specs.Block.{name_in, value_in, rest_of, end_in, whole_first, good_first, good_name, name_byte, formed, empty}
@@ -28,36 +29,22 @@ rest_at s k e q =
     ap (λ (n : ℕ). drop n s) p ∙ sym (drop-drop (e + 1) k s) ∙ ap (λ (n : ℕ). drop n (drop k s)) (sym m) ∙ w
 
 -- One turn of a loop over the pairs of a text.
-pub some : (s : List ℕ) (k : ℕ) → k < length s → empty (drop k s) ≡ false
-some s k h = ne_eqb (length (drop k s)) 0 (λ z. let l : length (drop k s) ≡ length s - k = length-drop k s in omega arith)
+some : (s : List ℕ) → 0 < length s → empty s ≡ false
+some s h = ne_eqb (length s) 0 (λ z. omega (arith, z))
 
-pub none : (s : List ℕ) (k : ℕ) → length s ≤ k → empty (drop k s) ≡ true
-none s k h = eq-eqb (length (drop k s)) 0 (length-drop k s ∙ omega arith)
-
-module _ (s : List ℕ) (k : ℕ) (h : k < length s) where
-  pub formed-none : formed 0 (drop k s) ≡ false
-  unfolding formed
-  formed-none = some s k h
-
-  pub formed-bad : (n : ℕ) → good_first (drop k s) ≡ false → formed n (drop k s) ≡ false
-  unfolding formed
-  formed-bad zero b = some s k h
-  formed-bad (suc n) b = rw (some s k h, b)
-
-  pub formed-step : (n e : ℕ) → good_first (drop k s) ≡ true → e ≡ length (name_in (drop k s)) + 1 + length (value_in (drop k s))
-      → formed (suc n) (drop k s) ≡ formed n (drop (k + e + 1) s)
-  unfolding formed
-  formed-step n e g q = rw (some s k h, g, rest_at s k e q)
-
-pub formed-end : (n : ℕ) (s : List ℕ) (k : ℕ) → length s ≤ k → formed n (drop k s) ≡ true
+pub formed_bad : (n : ℕ) (s : List ℕ) → 0 < length s → good_first s ≡ false → formed n s ≡ false
 unfolding formed
-formed-end zero s k h = none s k h
-formed-end (suc n) s k h = rw (none s k h)
+formed_bad zero s h b = some s h
+formed_bad (suc n) s h b = rw (some s h, b)
 
--- One turn of a loop that goes on with what follows a good pair.
-pub formed_rest : (n e : ℕ) (s : List ℕ) → 0 < length s → good_first s ≡ true → e ≡ length (name_in s) + 1 + length (value_in s)
-    → formed (suc n) s ≡ formed n (drop (e + 1) s)
-formed_rest n e s h g q = rw zero-add at (formed-step s 0 h n e g q)
+pub formed_end : (n : ℕ) (s : List ℕ) → length s ≡ 0 → formed n s ≡ true
+unfolding formed
+formed_end zero s h = eq-eqb (length s) 0 h
+formed_end (suc n) s h = rw (eq-eqb (length s) 0 h)
+
+pub formed_none : (n : ℕ) (s : List ℕ) → n ≡ 0 → formed n s ≡ empty s
+unfolding formed
+formed_none n s e = rw e
 
 -- A first pair is good if its name is, and the rest of its form.
 good-go : (a b c d : Bool) → (((a && b) && c) && d) ≡ (a && ((b && c) && d))
@@ -86,11 +73,15 @@ module _ (s : List ℕ) (w : whole_first s ≡ true) where
       let h : length (before 0 (after 61 s)) < length (after 61 s) = ltb-true _ _ (sym (has-before 0 (after 61 s)) ∙ z) in
       omega (arith, h, length-after 61 s)
 
--- A name that begins with an upper-case letter, and not with X#, is good if the bytes after the first are name bytes.
-or-false : (a : Bool) → (a || false) ≡ a
-or-false true = refl
-or-false false = refl
+-- After a good pair the loop goes on with what follows it.
+pub formed_on : (n e : ℕ) (s : List ℕ) → 0 < length s → good_first s ≡ true → e ≡ end_in s
+    → formed n (take (length s - (e + 1)) (drop (e + 1) s)) ≡ formed (n + 1) s
+unfolding formed
+formed_on n e s h g q =
+    let r : drop (e + 1) s ≡ rest_of s = rw zero-add at (rest_at s 0 e (q ∙ whole-ends s (good-whole s g))) in
+    rw (rest_part, r, add-one, some s h, g)
 
+-- A name that begins with an upper-case letter, and not with X#, is good if the bytes after the first are name bytes.
 upper-go : (n : List ℕ) → length n ≤ 63 → 1 ≤ length n → 65 ≤ get_or n 0 0 → get_or n 0 0 ≤ 90
     → (2 ≤ length n → get_or n 0 0 ≡ 88 → get_or n 1 0 ≡ 35 → ⊥) → good_name n ≡ all name_byte (drop 1 n)
 unfolding good_name all
@@ -129,3 +120,9 @@ module _ (s : List ℕ) {eq : ℕ} (n : eq ≡ length (name_in s)) where
   cut-value {end} v =
       let m : end - (eq + 1) ≡ length (before 0 (after 61 s)) = omega (arith, n, v) in
       rw (m, n, drop-before 61 s) (take-before 0 (after 61 s))
+
+pub ruleset cut = (tail_is, has-before, whole-ends, whole-inside)
+
+pub ruleset named_first = (good-first, cut-name)
+
+pub ruleset turns = (formed_end, formed_bad, formed_none, formed_on, rest_part, length-drop)

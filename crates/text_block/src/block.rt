@@ -1,5 +1,5 @@
 // The form of a text block: zero to 64 pairs NAME=VALUE, each followed by one zero byte.
-ghost use Rattle.std.specs.Prelude.{◌≡◌, drop};
+ghost use Rattle.std.specs.Prelude.{◌≡◌};
 ghost use Rattle.text.specs.Text.{all};
 ghost use Rattle.text_block.specs.Block.{name_byte, good_name, good_first, whole_first, formed};
 ghost use Rattle.text_block.specs.Promises.{SpanOf};
@@ -14,19 +14,23 @@ const MAX_VALUE: usize = 255;
 // The most bytes of a name.
 const MAX_NAME: usize = 63;
 
-// Without a branch: as a match of ranges a name of 19 bytes took 62 to 82 ns and not 54 to 57.
-#[tactic(auto, unfolding(crate::specs::Block::name_byte))]
+// Each byte of a name stands at its own place, and a comma at every other place. With comparisons a name of 19 bytes took 28 ns and not 17, and the
+// form of 64 pairs 2,880 ns and not 1,880.
+static NAME_BYTES: [u8; 256] = *b"\
+    ,,,,,,,,,,,,,,,,,,,,,,,,,,,,,,,,\
+    ,,,,,,,,,,,+,-.,0123456789,,,,,,\
+    @ABCDEFGHIJKLMNOPQRSTUVWXYZ,,,,_\
+    ,abcdefghijklmnopqrstuvwxyz,,,,,\
+    ,,,,,,,,,,,,,,,,,,,,,,,,,,,,,,,,\
+    ,,,,,,,,,,,,,,,,,,,,,,,,,,,,,,,,\
+    ,,,,,,,,,,,,,,,,,,,,,,,,,,,,,,,,\
+    ,,,,,,,,,,,,,,,,,,,,,,,,,,,,,,,,";
+
+// A byte that a name may have.
 fn is_name_byte(b: u8) -> bool
     ensures { result ≡ name_byte b }
 {
-    ((b >= b'A') & (b <= b'Z'))
-        | ((b >= b'a') & (b <= b'z'))
-        | ((b >= b'0') & (b <= b'9'))
-        | (b == b'.')
-        | (b == b'-')
-        | (b == b'+')
-        | (b == b'@')
-        | (b == b'_')
+    NAME_BYTES[b as usize] != b','
 }
 
 #[tactic(auto, using(text::proofs::Words::all_is_list_all))]
@@ -52,6 +56,7 @@ pub fn name_good(s: &[u8]) -> bool
 }
 
 // Where the first pair of a text ends its name and its value: before the first =, and before the first zero byte after that.
+// Places and no slices: `SpanOf` speaks of places, and an answer begins with name and = together.
 #[derive(Clone, Copy)]
 pub struct Span {
     pub eq: usize,
@@ -59,6 +64,7 @@ pub struct Span {
 }
 
 // The first pair of a text, whatever its name is: none where no = is there, the value is too long, or no zero byte follows it.
+#[tactic(auto, using(crate::proofs::Pairs::cut))]
 pub fn cut_pair(s: &[u8]) -> Option<Span>
     ensures { SpanOf s.now (whole_first s.now) result }
 {
@@ -78,6 +84,7 @@ pub fn cut_pair(s: &[u8]) -> Option<Span>
 }
 
 // The first pair, if its form is good.
+#[tactic(auto, using(crate::proofs::Pairs::named_first))]
 fn first_pair(s: &[u8]) -> Option<Span>
     ensures { SpanOf s.now (good_first s.now) result }
 {
@@ -86,6 +93,7 @@ fn first_pair(s: &[u8]) -> Option<Span>
 }
 
 // The form of a whole block.
+#[tactic(auto, using(crate::proofs::Pairs::turns))]
 pub fn well_formed(s: &[u8]) -> bool
     ensures { result ≡ formed 64 s.now }
 {

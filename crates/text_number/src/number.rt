@@ -1,23 +1,26 @@
 // Numbers in a text, read and written.
-ghost use Rattle.std.specs.Prelude.{◌≡◌, ◌+◌, ◌≤◌, length};
+ghost use Rattle.std.specs.Prelude.{◌≡◌, ◌+◌, ◌≤◌, ◌<◌, length, SomeIff};
 ghost use Rattle.text.specs.Text.{Appended};
 ghost use Rattle.text_number.specs.Number.{digit_of, number_in, number_of, decimal};
 
 use text::slice::append;
 
-// The value of a digit or a hex digit; 16 for any other byte.
-fn digit(b: u8) -> u64
-    ensures { result ≡ digit_of b }
+// The value of a digit or a hex digit, where it is one of this base. With char::to_digit 0xffffffffffffffff took 49 ns and not 30.
+fn digit(base: u64, b: u8) -> Option<u64>
+    requires { base ≤ 16 }
+    ensures { SomeIff result (digit_of b < base) (digit_of b) }
 {
-    match b {
+    let d = match b {
         b'0'..=b'9' => b as u64 - 48,
         b'A'..=b'F' => b as u64 - 55,
         b'a'..=b'f' => b as u64 - 87,
-        _ => 16,
-    }
+        _ => return None,
+    };
+    if d < base { Some(d) } else { None }
 }
 
 // All of s as digits of a number in this base; none where its value is 2^64 or more.
+#[tactic(auto, using(crate::proofs::Digits::read))]
 fn number_in(base: u64, s: &[u8]) -> Option<u64>
     requires { (1 ≤ base) × (base ≤ 16) }
     ensures { result ≡ number_in base s.now }
@@ -27,11 +30,7 @@ fn number_in(base: u64, s: &[u8]) -> Option<u64>
     }
     let mut v: u64 = 0;
     for b in s {
-        let d = digit(*b);
-        if base <= d {
-            return None;
-        }
-        v = v.checked_mul(base)?.checked_add(d)?;
+        v = v.checked_mul(base)?.checked_add(digit(base, *b)?)?;
     }
     Some(v)
 }
@@ -49,6 +48,7 @@ pub fn number_of(s: &[u8]) -> Option<u64>
 }
 
 // n in decimal, after the first `at` bytes of an output.
+#[tactic(auto, using(crate::proofs::Digits::put))]
 pub fn put_decimal(out: &mut [u8], at: usize, n: u32) -> usize
     requires { at + 10 ≤ length out.old }
     ensures { Appended out.old at (decimal 10 n) out.new result }
@@ -56,7 +56,7 @@ pub fn put_decimal(out: &mut [u8], at: usize, n: u32) -> usize
     let mut digits = [b'0'; 10];
     let mut i = 9;
     let mut rest = n;
-    // The measure is what is left, not a count of places.
+    // The measure is what is left, not a count of places. No write!: it answers with an io::Result, and this can't fail.
     while 10 <= rest {
         digits[i] = b'0' + (rest % 10) as u8;
         rest /= 10;

@@ -14,6 +14,7 @@ ghost use Rattle.transfer_words.specs.Moves.{Moves, Makes, task_given_of};
 
 use answer_words::DONE;
 use session_words::load;
+use task::OPEN_PLACES;
 use task_book::TaskGiven;
 use task_changes::{store_data_in, store_r2t};
 
@@ -84,8 +85,8 @@ pub fn r2t(
     m: &[u64; 6],
     task: &mut [u32; 12],
     wide: &mut [u64; 4],
-    tags: &mut [u32; 8],
-    ends: &mut [u64; 8],
+    tags: &mut [u32; OPEN_PLACES],
+    ends: &mut [u64; OPEN_PLACES],
     conn: u32,
     tag: u32,
     length: u32,

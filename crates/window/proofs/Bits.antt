@@ -1,9 +1,7 @@
 -- Laws of the maps of a list of places. By induction on the place, with n / 2 and n % 2 for the bits that are left and the
 -- lowest.
-use Rattle.std.proofs.Common.{◌≡◌, ℕ, zero, suc, ◌/◌, ◌%◌, ◌^◌, ◌<◌, ◌≤◌, List, [], ◌∷◌, ◌++◌, length, get_or, drop, set, replicate, sym, refl, ap, ◌∙◌, arith, get_or-set_other, get_or-set_same}
-use native.Mathlib.Nat.{max-zero}
-use native.Mathlib.Decide.{ℕ_discrete}
-use lib.Bits.{bit_or}
+use Rattle.std.proofs.Common.{◌≡◌, ℕ, zero, suc, ◌/◌, ◌%◌, ◌^◌, ◌<◌, ◌≤◌, List, [], ◌∷◌, ◌++◌, length, get_or, drop, set, replicate, sym, refl, ap, ◌∙◌, arith}
+use Rattle.std.proofs.lemmas.Grind.{common_steps}
 use Rattle.place_map.specs.Bit.{bit_at, with_bit, Gapless}
 use Rattle.place_map.proofs.Bits.{bit-zero, bit-suc, bit-lt, bit-none, bit-or, bit-same, bit-other}
 use Rattle.window.specs.Book.{Place, empty, holds, gapless}
@@ -39,29 +37,22 @@ maps-shift f n l h d = sym (bit-suc n d) ∙ h (suc d) ∙ ap f (sym (shifted l 
 -- a place that is set, with its bit
 pub maps-set : (f : Place → ℕ) (n k : ℕ) (x : Place) (l : List Place) → Maps n f l → k < length l → f x ≡ 1 → Maps (with_bit n k) f (set l k x)
 unfolding Maps with_bit
-maps-set f n k x l h b e d = go (ℕ_discrete d k)
-  where
-    go : Dec (d ≡ k) → bit_at (bit_or n (2 ^ k)) d ≡ f (get_or (set l k x) d empty)
-    go (yes q) = rw (q, bit-or, bit-same, get_or-set_same l k x empty b) (omega (arith, bit-lt n k))
-    go (no q) = rw (bit-or, bit-other k d q, get_or-set_other l k d x empty q) (max-zero (bit_at n d) ∙ h d)
+maps-set f n k x l h b e d = grind (arith, common_steps, bit-or n (2 ^ k) d, bit-same, bit-other, bit-lt)
 
 -- a place that is set, whose bit stays
 pub maps-keep : (f : Place → ℕ) (n k : ℕ) (x : Place) (l : List Place) → Maps n f l → k < length l → f x ≡ f (get_or l k empty) → Maps n f (set l k x)
 unfolding Maps
-maps-keep f n k x l h b e d = go (ℕ_discrete d k)
-  where
-    go : Dec (d ≡ k) → bit_at n d ≡ f (get_or (set l k x) d empty)
-    go (yes q) = rw (q, get_or-set_same l k x empty b) (h k ∙ sym e)
-    go (no q) = rw (get_or-set_other l k d x empty q) (h d)
+maps-keep f n k x l h b e d = grind (arith, common_steps)
 
-pub all-empty : (n d : ℕ) → get_or (replicate n empty) d empty ≡ empty
-all-empty zero d = refl
-all-empty (suc n) zero = refl
-all-empty (suc n) (suc d) = all-empty n d
+-- a list of one thing alone
+pub alike : {A : Type 0} (x : A) (n d : ℕ) → get_or (replicate n x) d x ≡ x
+alike x zero d = refl
+alike x (suc n) zero = refl
+alike x (suc n) (suc d) = alike x n d
 
 pub maps_none : (f : Place → ℕ) (n : ℕ) → f empty ≡ 0 → Maps 0 f (replicate n empty)
 unfolding Maps
-maps_none f n e d = bit-none d ∙ sym e ∙ ap f (sym (all-empty n d))
+maps_none f n e d = bit-none d ∙ sym e ∙ ap f (sym (alike empty n d))
 
 -- the held places without a gap
 pub gapless-is : (l : List Place) (n g : ℕ) → Maps n held_bit l → g ≤ length l → ((d : ℕ) → d < g → bit_at n d ≡ 1) → (g < length l → bit_at n g ≡ 0)

@@ -1,5 +1,6 @@
 -- The places after a logout of the book: the first g lie before ExpCmdSN.
 use Rattle.std.proofs.Common.{◌≡◌, ℕ, zero, suc, ◌<◌, ◌≤◌, List, [], ◌∷◌, length, get_or, sym, refl, ap, arith}
+use Rattle.window.specs.Agree.{held_bit}
 use Rattle.window.specs.Book.{Place, empty, Book, gapless, logout, before, after, left, logout_step, book_step}
 
 module _ (c r : ℕ) where
@@ -25,6 +26,10 @@ module _ (c r : ℕ) where
   left_after zero (p ∷ l) (suc d) h = left_after zero l d (omega arith)
   left_after (suc g) (p ∷ l) zero h = absurd (omega arith)
   left_after (suc g) (p ∷ l) (suc d) h = left_after g l d (omega arith)
+
+  pub held-before : (p : Place) → held_bit (before c r p) ≡ held_bit p
+  unfolding held_bit before
+  held-before p = grind arith
 
 -- "ExpCmdSN is the one before the logout"
 pub logout-at : (b : Book) (c r g : ℕ) → g ≡ gapless b.held → book_step b (logout c r) ≡ logout_step b c r g

@@ -1,6 +1,6 @@
 -- What the steps of the code share: the book's step known whole, where a number lies, and what the bits of a place say.
-use Rattle.std.proofs.Common.{◌≡◌, ℕ, ◌+◌, ◌-◌, ◌%◌, ◌^◌, Bool, true, false, eqb, List, length, sym, refl, ap, ◌∙◌, subst, arith, eq-eqb, ne_eqb}
-use native.Mathlib.Decide.{ℕ_discrete}
+use Rattle.std.proofs.Common.{◌≡◌, ℕ, ◌+◌, ◌-◌, ◌%◌, ◌^◌, Bool, true, false, List, length, sym, refl, ap, ◌∙◌, subst, arith, eq-eqb}
+use borrow.Author.Tests.{tests}
 use Rattle.window.specs.Book.{Origin, none, connection, Place, empty, holds, Book, next, distance, Call, Answer, Step, step, book_step, one-if, is_from}
 use Rattle.window.specs.declared.Window.{Window}
 use Rattle.window.specs.Agree.{State, held_bit, origin_bit, OriginAt, Agrees, MeetsAt}
@@ -16,8 +16,7 @@ met call s a o s' b b' e g = record {
 
 pub held_none : (p : Place) → held_bit p ≡ 0 → p ≡ empty
 unfolding held_bit
-held_none empty h = refl
-held_none (holds e) h = absurd (omega arith)
+held_none p h = grind arith
 
 -- the places are as many as the slots
 pub all-places : (s : State) (b : Book) → Agrees s b → length b.held ≡ 64
@@ -35,28 +34,14 @@ distance_is b w n e = rw e
 
 -- a 1 of a Bool
 pub true-of-one : (t : Bool) → one-if t ≡ 1 → t ≡ true
-true-of-one true e = refl
-true-of-one false e = absurd (omega arith)
+true-of-one t e = grind arith
 
 pub false-of-none : (t : Bool) → (one-if t ≡ 1 → ⊥) → t ≡ false
-false-of-none true e = absurd (e refl)
-false-of-none false e = refl
-
-eq-of-one : (x c : ℕ) → one-if (eqb x c) ≡ 1 → x ≡ c
-eq-of-one x c h = go (ℕ_discrete x c)
-  where
-    go : Dec (x ≡ c) → x ≡ c
-    go (yes e) = e
-    go (no n) = absurd (omega (arith, ap one-if (ne_eqb x c n)))
+false-of-none t e = grind arith
 
 pub origin-connection : (c : ℕ) (p : Place) → origin_bit c p ≡ 1 → OriginAt (connection c) p
 unfolding origin_bit is_from OriginAt
-origin-connection c empty e = tt
-origin-connection c (holds e) h = go e.origin h
-  where
-    go : (o : Origin) → one-if (is_from c o) ≡ 1 → connection c ≡ o
-    go none h = absurd (omega arith)
-    go (connection x) h = ap connection (sym (eq-of-one x c h))
+origin-connection c p e = grind (arith, tests)
 
 pub origin-none : (p : Place) → ((c : ℕ) → origin_bit c p ≡ 0) → OriginAt none p
 unfolding origin_bit is_from OriginAt

@@ -1,6 +1,6 @@
 -- Follows the code: how its window, with the arrays lent to it, stands for a book. Bit d of each map is for the place d,
 -- and so is its slot.
-use Rattle.std.specs.Prelude.{◌≡◌, Option, Some, None, ℕ, ◌+◌, ◌-◌, ◌*◌, ◌%◌, ◌^◌, ◌≤◌, min, List, [], length, drop, replicate, slice_index, slice_index_or, slice_set}
+use Rattle.std.specs.Prelude.{◌≡◌, Option, Some, None, ℕ, ◌+◌, ◌-◌, ◌*◌, ◌%◌, ◌^◌, min, List, [], length, drop, replicate, slice_index, slice_index_or, slice_set}
 use Rattle.std.proofs.Math.Seq.{paste}
 use Rattle.store.specs.Slot.{header_size, in_slot}
 use Rattle.place_map.specs.Bit.{bit_at, with_bit}

@@ -9,16 +9,23 @@ ghost use Rattle.window.specs.PlaceSlot.{slots, slot_of};
 ghost use Rattle.window.specs.Book.{Book, empty, exp_cmd_sn_of, max_cmd_sn_of};
 ghost use Rattle.window.specs.Agree.{Agrees, IsFresh, OriginAt, Commands, state, origin_of};
 
+use store::HEADER_BYTES;
+
 // The numbers from R on that may be held.
 pub const PLACES: u32 = 64;
-// The slots of the lent arrays, and the bytes that these take.
-pub const WINDOW_SLOTS: usize = 64;
 
-pub const WINDOW_BYTES: usize = 3072;
-// The connections of a session, as a bound on their numbers and as a length.
+// The slots of the lent arrays, and the bytes that these take. Headers and tickets travel apart, since they are two arrays of C's `drawbevel_session`: a
+// struct of both would be made at each call only to be taken apart below.
+pub const WINDOW_SLOTS: usize = PLACES as usize;
+
+pub const WINDOW_BYTES: usize = WINDOW_SLOTS * HEADER_BYTES;
+
+// The connections of a session, as a bound on their numbers and as a length. A connection's number stays a number, and what is called after
+// `session_state::reach` asks that it be below these: reach tests it by its match, and a type of such numbers would be made by a second test, or
+// travel through every answer of reach.
 pub const CONNECTIONS: u32 = 4;
 
-pub const CONNS: usize = 4;
+pub const CONNS: usize = CONNECTIONS as usize;
 
 #[derive(Clone, Copy)]
 pub struct Window {
@@ -49,6 +56,8 @@ pub enum Offered {
     Beyond,
 }
 
+// What a take hands out. Three answers, none of them a refusal: as an Option it would hold a second enum, void or
+// command, to be matched again.
 #[derive(Clone, Copy)]
 pub enum Taken {
     Nothing,

@@ -1,416 +1,226 @@
--- A logout of the code against the book's: what each place is after it, and so each bit of the maps. `concerned` is the map
--- of the commands that the logout concerns, and the first g places lie before ExpCmdSN.
-use Prim.Native.Nat.{ℕ, zero, suc, ◌-◌, ◌^◌, ◌≤◌, ◌<◌, min, max}
-use mathlib.Core.Path.{◌≡◌, refl, sym, ap, ap₂, ◌∙◌}
-use mathlib.Core.Bool.{Bool, true, false, not, ◌&&◌}
-use mathlib.Core.List.{List, []}
+-- A logout of the code against the book's: what each place is after it, and so each bit of the maps. `mine` is the map of the commands
+-- that the logout concerns, and `first` that of the g places before ExpCmdSN.
+use Prim.Native.Nat.{ℕ, ◌-◌, ◌^◌, ◌≤◌, ◌<◌, min, max}
+use mathlib.Core.Path.{◌≡◌, refl, sym, ap, ◌∙◌}
+use mathlib.Core.Bool.{Bool, true, false}
+use mathlib.Core.List.{List, [], map}
 use native.Mathlib.Nat.{lt_of_le_of_lt}
 use native.Mathlib.Omega.{arith}
-use native.Mathlib.Decide.{ℕ_discrete, dec_lt}
-use borrow.Author.Tests.{ne_eqb, eq-eqb, eqb-true, lt-ltb, le-ltb}
+use native.Mathlib.Decide.{dec_lt}
+use borrow.Author.Tests.{tests}
 use lib.Dec.{eqb, ltb}
 use lib.Pow.{pow_mono, pow_pos}
 use lib.Bits.{bit_and, bit_or, and_le_l, and_le_r}
 use lib.Count.{ones}
 use lib.ListN as ListN
-use lib.ListN.{length, get_or, drop, set, length-set, get_or-eq_default}
-use lib.Seq.{get_or-set_same, get_or-set_other, get_or-take, length-take-le}
+use lib.ListN.{length, get_or, drop, set, length-set, get_or-eq_default, get_or-map}
+use Rattle.std.proofs.lemmas.Grind.{common_steps}
+use Rattle.field.specs.Field.{pick}
+use Rattle.place_map.specs.Bit.{bit_at, without, each_without, Gapless}
+use Rattle.place_map.proofs.Bits.{four, bit-none, bit-lt, bit-or, bit-and, bit_high, bit_below, bit-above, bit-without, without-lt}
 use Rattle.window.specs.declared.Window.{Window}
 use Rattle.window.specs.PlaceSlot.{slot_of}
-use Rattle.place_map.specs.Bit.{bit_at, without, each_without}
-use Rattle.window.specs.Book.{Origin, none, connection, Place, empty, holds, Book, next, gapless, logout, logged_out, step, one-if, is_from, concerns, spared, before, after, left, emptied_at, voided_at, sum_of, after_logout, logout_step, book_step}
-use Rattle.field.specs.Field.{pick}
-use Rattle.window.specs.Agree.{Commands, state, held_bit, void_bit, origin_bit, Maps, SlotHas, Agrees}
+use Rattle.window.specs.Book.{Place, empty, Book, next, logout, logged_out, is_from, concerns, spared, before, after, left, emptied_at, voided_at, sum_of, after_logout, logout_step}
+use Rattle.window.specs.Agree.{Commands, state, held_bit, void_bit, origin_bit, Maps, SlotHas, Agrees, MeetsAt}
+use Rattle.window.proofs.Bits.{counts}
 use Rattle.window.proofs.PlaceSlot.{slot-stays}
-use Rattle.window.proofs.Steps.{all-places}
-use Rattle.place_map.proofs.Bits.{bit-none, bit-lt, bit-or, bit-and, bit_high, bit_below, bit-above, bit-without, without-lt}
-use Rattle.window.proofs.Left.{length-left, left-before, left_after, logout-at}
-use Rattle.window_logout.proofs.Counts.{ones-count, ones-from}
+use Rattle.window.proofs.Steps.{met, all-places}
+use Rattle.window.proofs.Left.{length-left, left-before, left_after, held-before, logout-at}
+use Rattle.window_logout.proofs.Counts.{ones-to, ones-from}
 
--- ---- the bits of a place after the logout
-
--- of a place that is emptied where the logout concerns it, whatever a map has of a command
-emptied-bit : (f : Place → ℕ) → f empty ≡ 0 → (c r : ℕ) (p : Place) → f p < 2 → f (after c r p) ≡ min (f p) (1 - emptied_at c r p)
-unfolding after emptied_at
-emptied-bit f z c r empty l = omega (arith, z)
-emptied-bit f z c r (holds e) l = go (concerns c r e)
-  where
-    go : (t : Bool) → f (pick t empty (holds e)) ≡ min (f (holds e)) (1 - one-if t)
-    go true = omega (arith, z)
-    go false = omega arith
-
-held-before : (c r : ℕ) (p : Place) → held_bit (before c r p) ≡ held_bit p
-unfolding held_bit before
-held-before c r empty = refl
-held-before c r (holds e) = refl
-
-void-before : (c r : ℕ) (p : Place) → void_bit (before c r p) ≡ max (void_bit p) (voided_at c r p)
-unfolding void_bit before spared voided_at
-void-before c r empty = refl
-void-before c r (holds e) = go (concerns c r e) (eqb r 2) e.void refl
-  where
-    go : (t u x : Bool) → e.void ≡ x
-        → one-if (pick t (pick u (record { header = e.header; ticket = e.ticket; origin = none; void = e.void })
-        (record { header = e.header; ticket = e.ticket; origin = e.origin; void = true })) e).void
-        ≡ max (one-if e.void) (one-if (not u && (t && not e.void)))
-    go true true true q = rw q
-    go true true false q = rw q
-    go true false true q = rw q
-    go true false false q = rw q
-    go false true true q = rw q
-    go false true false q = rw q
-    go false false true q = rw q
-    go false false false q = rw q
-
-one-lt : (t : Bool) → one-if t < 2
-one-lt true = omega arith
-one-lt false = omega arith
-
-void-lt : (p : Place) → void_bit p < 2
-unfolding void_bit
-void-lt empty = omega arith
-void-lt (holds e) = one-lt e.void
+-- ---- a place after the logout
 
 held-lt : (p : Place) → held_bit p < 2
 unfolding held_bit
-held-lt empty = omega arith
-held-lt (holds e) = omega arith
+held-lt p = grind arith
+
+void-lt : (p : Place) → void_bit p < 2
+unfolding void_bit
+void-lt p = grind arith
 
 origin-lt : (k : ℕ) (p : Place) → origin_bit k p < 2
 unfolding origin_bit
-origin-lt k empty = omega arith
-origin-lt k (holds e) = one-lt (is_from k e.origin)
+origin-lt k p = grind arith
 
--- the origin stays, but with reason 2
+voided-lt : (c r : ℕ) (p : Place) → voided_at c r p < 2
+unfolding voided_at
+voided-lt c r p = grind arith
+
+concerned : (c r : ℕ) (p : Place) → emptied_at c r p ≡ pick (eqb r 0) (held_bit p) (origin_bit c p)
+unfolding emptied_at concerns held_bit origin_bit
+concerned c r p = grind arith
+
+newly : (c r : ℕ) (p : Place) → voided_at c r p ≡ pick (eqb r 2) 0 (min (emptied_at c r p) (1 - void_bit p))
+unfolding voided_at emptied_at void_bit
+newly c r p = grind arith
+
+-- whatever a map has of a command
+emptied : (f : Place → ℕ) → f empty ≡ 0 → (c r : ℕ) (p : Place) → f p < 2 → f (after c r p) ≡ min (f p) (1 - emptied_at c r p)
+unfolding after emptied_at
+emptied f z c r p l = grind arith
+
+void-before : (c r : ℕ) (p : Place) → void_bit (before c r p) ≡ max (void_bit p) (voided_at c r p)
+unfolding void_bit before spared voided_at
+void-before c r p = grind arith
+
+-- the origin stays, but with reason 2, with which a command of c has none any more, before ExpCmdSN and after it
 origin-before : (k c r : ℕ) (p : Place) → eqb r 2 ≡ false → origin_bit k (before c r p) ≡ origin_bit k p
 unfolding origin_bit before spared
-origin-before k c r empty q = refl
-origin-before k c r (holds e) q = rw q (go (concerns c r e))
-  where
-    go : (t : Bool) → one-if (is_from k (pick t (record { header = e.header; ticket = e.ticket; origin = e.origin; void = true }) e).origin)
-        ≡ one-if (is_from k e.origin)
-    go true = refl
-    go false = refl
+origin-before k c r p q = grind arith
 
--- with reason 2 a command of c has no origin any more, before ExpCmdSN and after it, and the others keep theirs
-lost : (k c : ℕ) (o : Origin) → pick (is_from c o) 0 (one-if (is_from k o)) ≡ pick (eqb k c) 0 (one-if (is_from k o))
-unfolding is_from
-lost k c none = go (eqb k c)
-  where
-    go : (u : Bool) → ◌≡◌ {A = ℕ} 0 (pick u 0 0)
-    go true = refl
-    go false = refl
-lost k c (connection y) = go (ℕ_discrete k c) (eqb y c) refl
-  where
-    go : Dec (k ≡ c) → (t : Bool) → eqb y c ≡ t → pick (eqb y c) 0 (one-if (eqb y k)) ≡ pick (eqb k c) 0 (one-if (eqb y k))
-    go (yes e) true q = rw (q, eq-eqb k c e)
-    go (yes e) false q = rw (q, eq-eqb k c e) (ap one-if (ap (eqb y) e ∙ q))
-    go (no n) true q = rw (q, ne_eqb k c n) (sym (ap one-if (ne_eqb y k (λ e. n (sym e ∙ eqb-true y c q)))))
-    go (no n) false q = rw (q, ne_eqb k c n)
-
-origin-lost : (k c : ℕ) (p : Place) → origin_bit k (before c 2 p) ≡ pick (eqb k c) 0 (origin_bit k p)
+lost-before : (k c r : ℕ) (p : Place) → eqb r 2 ≡ true → origin_bit k (before c r p) ≡ pick (eqb k c) 0 (origin_bit k p)
 unfolding origin_bit before spared concerns is_from
-origin-lost k c empty = go (eqb k c)
-  where
-    go : (u : Bool) → ◌≡◌ {A = ℕ} 0 (pick u 0 0)
-    go true = refl
-    go false = refl
-origin-lost k c (holds e) = go (is_from c e.origin) ∙ lost k c e.origin
-  where
-    go : (t : Bool) → one-if (is_from k (pick t (record { header = e.header; ticket = e.ticket; origin = none; void = e.void }) e).origin)
-        ≡ pick t 0 (one-if (is_from k e.origin))
-    go true = refl
-    go false = refl
+lost-before k c r p q = grind (arith, tests)
 
-origin-emptied : (k c : ℕ) (p : Place) → origin_bit k (after c 2 p) ≡ pick (eqb k c) 0 (origin_bit k p)
-unfolding origin_bit after concerns
-origin-emptied k c empty = go (eqb k c)
-  where
-    go : (u : Bool) → ◌≡◌ {A = ℕ} 0 (pick u 0 0)
-    go true = refl
-    go false = refl
-origin-emptied k c (holds e) = go (is_from c e.origin) ∙ lost k c e.origin
-  where
-    go : (t : Bool) → origin_bit k (pick t empty (holds e)) ≡ pick t 0 (one-if (is_from k e.origin))
-    go true = refl
-    go false = refl
+lost-after : (k c r : ℕ) (p : Place) → eqb r 2 ≡ true → origin_bit k (after c r p) ≡ pick (eqb k c) 0 (origin_bit k p)
+unfolding origin_bit after concerns is_from
+lost-after k c r p q = grind (arith, tests)
 
 slot-before : (cs : Commands) (j c r : ℕ) (p : Place) → SlotHas cs j p → SlotHas cs j (before c r p)
 unfolding SlotHas before spared
-slot-before cs j c r empty s = tt
-slot-before cs j c r (holds e) s = go (concerns c r e) (eqb r 2)
-  where
-    go : (v u : Bool) → SlotHas cs j (holds
-        (pick v (pick u (record { header = e.header; ticket = e.ticket; origin = none; void = e.void })
-        (record { header = e.header; ticket = e.ticket; origin = e.origin; void = true })) e))
-    go true true = s
-    go true false = s
-    go false u = s
+slot-before cs j c r p s = grind arith
 
 slot-after : (cs : Commands) (j c r : ℕ) (p : Place) → SlotHas cs j p → SlotHas cs j (after c r p)
 unfolding SlotHas after
-slot-after cs j c r empty s = tt
-slot-after cs j c r (holds e) s = go (concerns c r e)
-  where
-    go : (u : Bool) → SlotHas cs j (pick u empty (holds e))
-    go true = tt
-    go false = s
+slot-after cs j c r p s = grind arith
 
--- ---- the list of places
+-- ---- the maps of origins
 
-module _ (c r : ℕ) where
-  -- what holds of each place before and of each after holds of all
-  left-all : (g : ℕ) (l : List Place) (P : ℕ → Place → Type 0) → ((d : ℕ) → d < g → P d (before c r (get_or l d empty)))
-      → ((d : ℕ) → g ≤ d → P d (after c r (get_or l d empty))) → (d : ℕ) → P d (get_or (left c r g l) d empty)
-  left-all g l P x y d = go (dec_lt d g)
-    where
-      go : Dec (d < g) → P d (get_or (left c r g l) d empty)
-      go (yes h) = rw (left-before c r g l d h) (x d h)
-      go (no h) = let k : g ≤ d = omega arith in rw (left_after c r g l d k) (y d k)
+-- with that of c empty
+lost : (l : List ℕ) (c k : ℕ) → length l ≡ 4 → get_or (pick (ltb c 4) (set l c 0) l) k 0 ≡ pick (eqb k c) 0 (get_or l k 0)
+lost l c k e = grind (arith, tests, common_steps)
+
+each : (l : List ℕ) (m k : ℕ) → length l ≡ 4 → get_or (each_without l m) k 0 ≡ without (get_or l k 0) m
+unfolding each_without
+each l m k e =
+    let none : without 0 m ≡ 0 = unfold without in (omega (arith, and_le_l 0 (2 ^ 64 - 1 - m))) in
+    let all = get_or-map (λ (n : ℕ). without n m) l k 0 in
+    ap (λ (x : List ℕ). get_or (map (λ (n : ℕ). without n m) x) k 0) (four 0 l e) ∙ rw none at all
+
+left-size : (l : List ℕ) (u : Bool) (c m : ℕ) → length l ≡ 4 → length (pick u (pick (ltb c 4) (set l c 0) l) (each_without l m)) ≡ 4
+unfolding each_without
+left-size l u c m e = grind (arith, common_steps)
 
 -- ---- the maps
 
-module _ (x : Window) (cs : Commands) (b : Book) (c r g mine : ℕ) (a : Agrees (state x cs) b) (hg : g ≤ 64) (lv : x.voided < 2 ^ 64)
-    (lm : mine < 2 ^ 64) (mine-bit : (d : ℕ) → bit_at mine d ≡ emptied_at c r (get_or b.held d empty)) where
-  past : (d : ℕ) → 64 ≤ d → get_or b.held d empty ≡ empty
-  past d l = get_or-eq_default b.held empty {n = d} (omega (arith, all-places (state x cs) b a))
+module _ (x : Window) (cs : Commands) (b : Book) (c r g first mine : ℕ) (a : Agrees (state x cs) b) (run : Gapless x.held g) (first-is : first ≡ 2 ^ g - 1)
+    (mine-is : mine ≡ pick (eqb r 0) x.held (get_or x.origins c 0)) (lm : mine < 2 ^ 64) (lv : x.voided < 2 ^ 64) where
+  abbrev at : ℕ → Place
+  at d = get_or b.held d empty
 
-  first-lt : 2 ^ g - 1 < 2 ^ 64
-  first-lt = omega (arith, pow_mono {i = g} {j = 64} hg)
+  abbrev gone : ℕ
+  gone = without mine first
 
-  gone-in : (d : ℕ) → d < g → bit_at (without mine (2 ^ g - 1)) d ≡ 0
-  gone-in d l = omega (arith, bit-without mine (2 ^ g - 1) d (bit_high 64 mine d lm) first-lt, bit_below g d l)
+  -- what holds of each place before and of each after holds of all
+  left-all : (P : ℕ → Place → Type 0) → ((d : ℕ) → d < g → P d (before c r (at d))) → ((d : ℕ) → g ≤ d → P d (after c r (at d)))
+      → (d : ℕ) → P d (get_or (left c r g b.held) d empty)
+  left-all P i o d = go (dec_lt d g)
+    where
+      go : Dec (d < g) → P d (get_or (left c r g b.held) d empty)
+      go (yes h) = rw (left-before c r g b.held d h) (i d h)
+      go (no h) = let k : g ≤ d = omega arith in rw (left_after c r g b.held d k) (o d k)
 
-  gone-out : (d : ℕ) → g ≤ d → bit_at (without mine (2 ^ g - 1)) d ≡ emptied_at c r (get_or b.held d empty)
-  gone-out d l = omega (arith, bit-without mine (2 ^ g - 1) d (bit_high 64 mine d lm) first-lt, bit-above g d l, bit-lt mine d, mine-bit d)
+  mine-bit : (d : ℕ) → bit_at mine d ≡ emptied_at c r (at d)
+  unfolding Maps
+  mine-bit d = grind (arith, mine-is, a.held d, a.origins c d, concerned c r (at d))
 
-  gone-lt : without mine (2 ^ g - 1) < 2 ^ 64
-  gone-lt = without-lt mine (2 ^ g - 1) lm
+  first-in : (d : ℕ) → d < g → bit_at first d ≡ 1
+  first-in d l = rw first-is (bit_below g d l)
 
-  pub count-emptied : ones (without mine (2 ^ g - 1)) ≡ sum_of (emptied_at c r) (drop g b.held)
-  count-emptied = ones-from (emptied_at c r) b.held g (without mine (2 ^ g - 1)) gone-in gone-out (rw (all-places (state x cs) b a) gone-lt)
+  first-out : (d : ℕ) → g ≤ d → bit_at first d ≡ 0
+  first-out d l = rw first-is (bit-above g d l)
+
+  gone-bit : (d : ℕ) → bit_at gone d ≡ min (emptied_at c r (at d)) (1 - bit_at first d)
+  gone-bit d =
+      omega (arith, bit-without mine first d (bit_high 64 mine d lm) (omega (arith, first-is, pow_mono {i = g} {j = 64} run.fits)), mine-bit d)
+
+  gone-lt : gone < 2 ^ 64
+  gone-lt = without-lt mine first lm
 
   -- a map without what is emptied
-  module _ (n : ℕ) where
-    rest_in : (d : ℕ) → d < g → bit_at (without n (without mine (2 ^ g - 1))) d ≡ bit_at n d
-    rest_in d l = omega (arith, bit-without n (without mine (2 ^ g - 1)) d (λ k. absurd (omega arith)) gone-lt, gone-in d l, bit-lt n d)
+  maps-left : (f : Place → ℕ) → f empty ≡ 0 → ((p : Place) → f p < 2) → (n : ℕ) → ((d : ℕ) → d < g → bit_at n d ≡ f (before c r (at d)))
+      → ((d : ℕ) → g ≤ d → bit_at n d ≡ f (at d)) → Maps (without n gone) f (left c r g b.held)
+  unfolding Maps
+  maps-left f z s n i o = left-all (λ d p. bit_at (without n gone) d ≡ f p)
+      (λ d l. omega (arith, bit-without n gone d (λ k. absurd (omega (arith, run.fits))) gone-lt, gone-bit d, first-in d l, bit-lt n d, i d l))
+      (λ d l. omega (arith, bit-without n gone d (λ k. o d l ∙ past d k ∙ z) gone-lt, gone-bit d, first-out d l, o d l, emptied f z c r (at d) (s (at d))))
+    where
+      past : (d : ℕ) → 64 ≤ d → f (at d) ≡ f empty
+      past d l = ap f (get_or-eq_default b.held empty {n = d} (omega (arith, all-places (state x cs) b a)))
 
-    rest_out : (f : Place → ℕ) → f empty ≡ 0 → ((q : Place) → f q < 2) → (d : ℕ) → g ≤ d → bit_at n d ≡ f (get_or b.held d empty)
-        → bit_at (without n (without mine (2 ^ g - 1))) d ≡ f (after c r (get_or b.held d empty))
-    rest_out f z s d l e =
-        omega (
+  module _ (new : ℕ) (new-is : new ≡ pick (eqb r 2) 0 (without (bit_and mine first) x.voided)) where
+    new-bit : (d : ℕ) → bit_at new d ≡ min (voided_at c r (at d)) (bit_at first d)
+    unfolding Maps
+    new-bit d =
+        let both : bit_and mine first < 2 ^ 64 = lt_of_le_of_lt (and_le_l mine first) lm in
+        grind (
           arith,
-          bit-without n (without mine (2 ^ g - 1)) d (λ k. e ∙ ap f (past d k) ∙ z) gone-lt,
-          gone-out d l,
-          e,
-          emptied-bit f z c r (get_or b.held d empty) (s (get_or b.held d empty)),
+          new-is,
+          bit-none d,
+          bit-without (bit_and mine first) x.voided d (bit_high 64 (bit_and mine first) d both) lv,
+          bit-and mine first d,
+          mine-bit d,
+          a.voided d,
+          newly c r (at d),
         )
 
-  module _ (new : ℕ) (New-is : new ≡ pick (eqb r 2) 0 (without (bit_and mine (2 ^ g - 1)) x.voided)) where
-    both-lt : bit_and mine (2 ^ g - 1) < 2 ^ 64
-    both-lt = lt_of_le_of_lt (and_le_l mine (2 ^ g - 1)) lm
-
-    void-at : (q : Place) (t : Bool) → eqb r 2 ≡ t → voided_at c r q ≡ pick t 0 (min (emptied_at c r q) (1 - void_bit q))
-    unfolding voided_at emptied_at void_bit
-    void-at empty true e = refl
-    void-at empty false e = refl
-    void-at (holds y) true e = rw e
-    void-at (holds y) false e = rw e (go (concerns c r y) y.void)
-      where
-        go : (s u : Bool) → one-if (s && not u) ≡ min (one-if s) (1 - one-if u)
-        go true true = refl
-        go true false = refl
-        go false true = refl
-        go false false = refl
-
-    void-few : (q : Place) → voided_at c r q < 2
-    unfolding voided_at
-    void-few empty = omega arith
-    void-few (holds y) = one-lt (not (eqb r 2) && (concerns c r y && not y.void))
-
-    new-bit : (d : ℕ) → bit_at new d ≡ min (voided_at c r (get_or b.held d empty)) (bit_at (2 ^ g - 1) d)
-    unfolding Maps
-    new-bit d = go (eqb r 2) refl
-      where
-        go : (u : Bool) → eqb r 2 ≡ u → bit_at new d ≡ min (voided_at c r (get_or b.held d empty)) (bit_at (2 ^ g - 1) d)
-        go true e =
-            ap (λ (n : ℕ). bit_at n d) (New-is ∙ ap (λ (u : Bool). pick u 0 (without (bit_and mine (2 ^ g - 1)) x.voided)) e) ∙ bit-none d
-            ∙ omega (arith, void-at (get_or b.held d empty) true e)
-        go false e =
-            ap (λ (n : ℕ). bit_at n d) (New-is ∙ ap (λ (u : Bool). pick u 0 (without (bit_and mine (2 ^ g - 1)) x.voided)) e)
-            ∙ omega (
-              arith,
-              bit-without (bit_and mine (2 ^ g - 1)) x.voided d (bit_high 64 (bit_and mine (2 ^ g - 1)) d both-lt) lv,
-              bit-and mine (2 ^ g - 1) d,
-              mine-bit d,
-              a.voided d,
-              void-at (get_or b.held d empty) false e,
-            )
-
-    new_in : (d : ℕ) → d < g → bit_at new d ≡ voided_at c r (get_or b.held d empty)
-    new_in d l = omega (arith, new-bit d, bit_below g d l, void-few (get_or b.held d empty))
-
-    new-out : (d : ℕ) → g ≤ d → bit_at new d ≡ 0
-    new-out d l = omega (arith, new-bit d, bit-above g d l)
-
-    new-le : new ≤ 2 ^ g - 1
+    new-le : new ≤ first
     unfolding without
-    new-le = go (eqb r 2) refl
-      where
-        go : (u : Bool) → eqb r 2 ≡ u → new ≤ 2 ^ g - 1
-        go true e = omega (arith, New-is ∙ ap (λ (u : Bool). pick u 0 (without (bit_and mine (2 ^ g - 1)) x.voided)) e)
-        go false e =
-            omega (
-              arith,
-              New-is ∙ ap (λ (u : Bool). pick u 0 (without (bit_and mine (2 ^ g - 1)) x.voided)) e,
-              and_le_l (bit_and mine (2 ^ g - 1)) (2 ^ 64 - 1 - x.voided),
-              and_le_r mine (2 ^ g - 1),
-            )
+    new-le = grind (arith, new-is, and_le_l (bit_and mine first) (2 ^ 64 - 1 - x.voided), and_le_r mine first)
 
-    pub count-voided : ones new ≡ sum_of (voided_at c r) (ListN.take g b.held)
-    unfolding Maps voided_at
-    count-voided = ones-count (voided_at c r) (ListN.take g b.held) new (λ d. go d (dec_lt d g)) fits
-      where
-        size : length (ListN.take g b.held) ≡ g
-        size = length-take-le g b.held (omega (arith, all-places (state x cs) b a))
-
-        fits : new < 2 ^ length (ListN.take g b.held)
-        fits = rw size (omega (arith, new-le, pow_pos g))
-
-        go : (d : ℕ) → Dec (d < g) → bit_at new d ≡ voided_at c r (get_or (ListN.take g b.held) d empty)
-        go d (yes k) = rw (get_or-take g b.held d empty k) (new_in d k)
-        go d (no k) = rw (get_or-eq_default (ListN.take g b.held) empty {n = d} (omega (arith, size))) (new-out d (omega arith))
-
-    void-out : (d : ℕ) → g ≤ d → bit_at (bit_or x.voided new) d ≡ void_bit (get_or b.held d empty)
+    void-in : (d : ℕ) → d < g → bit_at (bit_or x.voided new) d ≡ void_bit (before c r (at d))
     unfolding Maps
-    void-out d l = omega (arith, bit-or x.voided new d, a.voided d, new-out d l)
+    void-in d l =
+        omega (arith, bit-or x.voided new d, a.voided d, new-bit d, first-in d l, voided-lt c r (at d), void-before c r (at d))
 
-    pub left-agrees : (x' : Window) → x'.next ≡ x.next → x'.handed ≡ x.handed → x'.held ≡ without x.held (without mine (2 ^ g - 1))
-        → x'.voided ≡ without (bit_or x.voided new) (without mine (2 ^ g - 1)) → length x'.origins ≡ 4
-        → ((k d : ℕ) → d < g → bit_at (get_or x'.origins k 0) d ≡ origin_bit k (before c r (get_or b.held d empty)))
-        → ((k d : ℕ) → g ≤ d → bit_at (get_or x'.origins k 0) d ≡ origin_bit k (after c r (get_or b.held d empty)))
-        → Agrees (state x' cs) (after_logout b c r g)
-    unfolding after_logout Maps next
-    left-agrees x' e1 e2 e3 e4 eo oi oo = record {
-      next = e1 ∙ a.next;
-      handed = e2 ∙ a.handed;
-      share = a.share;
-      size = length-left c r g b.held ∙ a.size;
-      headers_size = a.headers_size;
-      tickets_size = a.tickets_size;
-      origins_size = eo;
-      held = rw e3 (left-all c r g b.held (λ d q. bit_at (without x.held (without mine (2 ^ g - 1))) d ≡ held_bit q)
-          (λ d l. rest_in x.held d l ∙ a.held d ∙ sym (held-before c r (get_or b.held d empty)))
-          (λ d l. rest_out x.held held_bit (unfold held_bit in refl) held-lt d l (a.held d)));
-      voided = rw e4 (left-all c r g b.held (λ d q. bit_at (without (bit_or x.voided new) (without mine (2 ^ g - 1))) d ≡ void_bit q)
-          (λ d l. rest_in (bit_or x.voided new) d l ∙ bit-or x.voided new d ∙ ap₂ max (a.voided d) (new_in d l)
-          ∙ sym (void-before c r (get_or b.held d empty)))
-          (λ d l. rest_out (bit_or x.voided new) void_bit (unfold void_bit in refl) void-lt d l (void-out d l)));
-      origins = λ k. left-all c r g b.held (λ d q. bit_at (get_or x'.origins k 0) d ≡ origin_bit k q) (oi k) (oo k);
-      in_slots = λ d. rw (slot-stays x x' d e1) (left-all c r g b.held (λ d q. SlotHas cs (slot_of x d) q)
-          (λ d l. slot-before cs (slot_of x d) c r (get_or b.held d empty) (a.in_slots d))
-          (λ d l. slot-after cs (slot_of x d) c r (get_or b.held d empty) (a.in_slots d)) d);
-    }
+    void-out : (d : ℕ) → g ≤ d → bit_at (bit_or x.voided new) d ≡ void_bit (at d)
+    unfolding Maps
+    void-out d l = omega (arith, bit-or x.voided new d, a.voided d, new-bit d, first-out d l)
 
--- ---- the map of the commands concerned
+    origins-left : (k : ℕ) (u : Bool) → eqb r 2 ≡ u
+        → Maps (get_or (pick u (pick (ltb c 4) (set x.origins c 0) x.origins) (each_without x.origins gone)) k 0) (origin_bit k) (left c r g b.held)
+    unfolding Maps
+    origins-left k true e =
+        let bit : (d : ℕ) → bit_at (pick (eqb k c) 0 (get_or x.origins k 0)) d ≡ pick (eqb k c) 0 (origin_bit k (at d)) =
+        λ d. grind (arith, bit-none d, a.origins k d) in
+        rw (lost x.origins c k a.origins_size) (left-all (λ d p. bit_at (pick (eqb k c) 0 (get_or x.origins k 0)) d ≡ origin_bit k p)
+        (λ d l. bit d ∙ sym (lost-before k c r (at d) e)) (λ d l. bit d ∙ sym (lost-after k c r (at d) e)))
+    origins-left k false e =
+        rw (each x.origins gone k a.origins_size)
+        (maps-left (origin_bit k) (unfold origin_bit in refl) (origin-lt k) (get_or x.origins k 0)
+        (λ d l. a.origins k d ∙ sym (origin-before k c r (at d) e)) (λ d l. a.origins k d))
 
-emptied-own : (c r : ℕ) (q : Place) → (r ≡ 0 → ⊥) → emptied_at c r q ≡ origin_bit c q
-unfolding emptied_at concerns origin_bit
-emptied-own c r empty n = refl
-emptied-own c r (holds e) n = rw (ne_eqb r 0 n)
+    count-emptied : ones gone ≡ sum_of (emptied_at c r) (drop g b.held)
+    count-emptied =
+        ones-from (emptied_at c r) b.held g gone (λ d l. omega (arith, gone-bit d, first-in d l))
+        (λ d l. omega (arith, gone-bit d, first-out d l, mine-bit d, bit-lt mine d)) (rw (all-places (state x cs) b a) gone-lt)
 
-emptied-all : (c r : ℕ) (q : Place) → r ≡ 0 → emptied_at c r q ≡ held_bit q
-unfolding emptied_at concerns held_bit
-emptied-all c r empty z = refl
-emptied-all c r (holds e) z = rw (eq-eqb r 0 z)
+    count-voided : ones new ≡ sum_of (voided_at c r) (ListN.take g b.held)
+    count-voided =
+        ones-to (voided_at c r) b.held g new (λ d l. omega (arith, new-bit d, first-in d l, voided-lt c r (at d)))
+        (omega (arith, run.fits, all-places (state x cs) b a)) (omega (arith, new-le, first-is, pow_pos g))
 
-pub concerned-bit : (x : Window) (cs : Commands) (b : Book) (c r m : ℕ) → Agrees (state x cs) b → m ≡ pick (eqb r 0) x.held (get_or x.origins c 0)
-    → (d : ℕ) → bit_at m d ≡ emptied_at c r (get_or b.held d empty)
-unfolding Maps
-concerned-bit x cs b c r m a e d = rw e (go (ℕ_discrete r 0))
-  where
-    go : Dec (r ≡ 0) → bit_at (pick (eqb r 0) x.held (get_or x.origins c 0)) d ≡ emptied_at c r (get_or b.held d empty)
-    go (yes z) = rw (eq-eqb r 0 z) (a.held d ∙ sym (emptied-all c r (get_or b.held d empty) z))
-    go (no n) = rw (ne_eqb r 0 n) (a.origins c d ∙ sym (emptied-own c r (get_or b.held d empty) n))
-
--- ---- the origins that are left
-
--- the map of connection k where that of c is made empty
-lost-bit : (x : Window) (cs : Commands) (b : Book) (c : ℕ) → Agrees (state x cs) b → (k d : ℕ)
-    → bit_at (get_or (pick (ltb c 4) (set x.origins c 0) x.origins) k 0) d ≡ pick (eqb k c) 0 (origin_bit k (get_or b.held d empty))
-unfolding Maps
-lost-bit x cs b c a k d = go (dec_lt c 4) (ℕ_discrete k c)
-  where
-    go : Dec (c < 4) → Dec (k ≡ c) → bit_at (get_or (pick (ltb c 4) (set x.origins c 0) x.origins) k 0) d
-        ≡ pick (eqb k c) 0 (origin_bit k (get_or b.held d empty))
-    go (yes m) (yes q) = rw (lt-ltb c 4 m, eq-eqb k c q, q, get_or-set_same x.origins c 0 0 (omega (arith, a.origins_size))) (bit-none d)
-    go (yes m) (no q) = rw (lt-ltb c 4 m, ne_eqb k c q, get_or-set_other x.origins c k 0 0 q) (a.origins k d)
-    go (no m) (yes q) =
-        let far : 4 ≤ c = omega arith in
-        rw (le-ltb c 4 far, eq-eqb k c q, q, get_or-eq_default x.origins 0 {n = c} (omega (arith, a.origins_size))) (bit-none d)
-    go (no m) (no q) = let far : 4 ≤ c = omega arith in rw (le-ltb c 4 far, ne_eqb k c q) (a.origins k d)
-
-each_at : (l : List ℕ) (m k : ℕ) → length l ≡ 4 → get_or (each_without l m) k 0 ≡ without (get_or l k 0) m
-unfolding each_without
-each_at l m zero e = refl
-each_at l m (suc zero) e = refl
-each_at l m (suc (suc zero)) e = refl
-each_at l m (suc (suc (suc zero))) e = refl
-each_at l m (suc (suc (suc (suc k)))) e =
-    sym (ap (λ (n : ℕ). without n m) (get_or-eq_default l 0 {n = suc (suc (suc (suc k)))} (omega arith)) ∙ nothing m)
-  where
-    nothing : (m : ℕ) → without 0 m ≡ 0
-    nothing m = unfold without in (omega (arith, and_le_l 0 (2 ^ 64 - 1 - m)))
-
--- the origins after the logout
-abbrev pub origins_left : List ℕ → (c r gone : ℕ) → List ℕ
-origins_left l c r gone = pick (eqb r 2) (pick (ltb c 4) (set l c 0) l) (each_without l gone)
-
-module _ (x : Window) (cs : Commands) (b : Book) (c r g mine : ℕ) (a : Agrees (state x cs) b) (hg : g ≤ 64) (lv : x.voided < 2 ^ 64)
-    (lm : mine < 2 ^ 64) (mine-bit : (d : ℕ) → bit_at mine d ≡ emptied_at c r (get_or b.held d empty)) where
-  two : eqb r 2 ≡ true → r ≡ 2
-  two e = eqb-true r 2 e
-
-  pub origins-in : (k d : ℕ) → d < g → bit_at (get_or (origins_left x.origins c r (without mine (2 ^ g - 1))) k 0) d
-      ≡ origin_bit k (before c r (get_or b.held d empty))
-  unfolding Maps
-  origins-in k d l = go (eqb r 2) refl
-    where
-      go : (u : Bool) → eqb r 2 ≡ u → bit_at (get_or (origins_left x.origins c r (without mine (2 ^ g - 1))) k 0) d
-          ≡ origin_bit k (before c r (get_or b.held d empty))
-      go true e = rw (e, two e) (lost-bit x cs b c a k d ∙ sym (origin-lost k c (get_or b.held d empty)))
-      go false e =
-          rw (e, each_at x.origins (without mine (2 ^ g - 1)) k a.origins_size)
-          (rest_in x cs b c r g mine a hg lv lm mine-bit (get_or x.origins k 0) d l ∙ a.origins k d ∙ sym (origin-before k c r (get_or b.held d empty) e))
-
-  pub origins-out : (k d : ℕ) → g ≤ d
-      → bit_at (get_or (origins_left x.origins c r (without mine (2 ^ g - 1))) k 0) d ≡ origin_bit k (after c r (get_or b.held d empty))
-  unfolding Maps origin_bit
-  origins-out k d l = go (eqb r 2) refl
-    where
-      go : (u : Bool) → eqb r 2 ≡ u → bit_at (get_or (origins_left x.origins c r (without mine (2 ^ g - 1))) k 0) d
-          ≡ origin_bit k (after c r (get_or b.held d empty))
-      go true e = rw (e, two e) (lost-bit x cs b c a k d ∙ sym (origin-emptied k c (get_or b.held d empty)))
-      go false e =
-          rw (e, each_at x.origins (without mine (2 ^ g - 1)) k a.origins_size)
-          (rest_out x cs b c r g mine a hg lv lm mine-bit (get_or x.origins k 0) (origin_bit k) refl (origin-lt k) d l (a.origins k d))
-
-  pub origins-length : length (origins_left x.origins c r (without mine (2 ^ g - 1))) ≡ 4
-  unfolding each_without
-  origins-length = go (eqb r 2) (ltb c 4)
-    where
-      go : (u s : Bool) → length (pick u (pick s (set x.origins c 0) x.origins) (each_without x.origins (without mine (2 ^ g - 1)))) ≡ 4
-      go true true = length-set x.origins c 0 ∙ a.origins_size
-      go true false = a.origins_size
-      go false s = refl
-
--- ---- the step of the book
-
-pub logout-step : (x : Window) (cs : Commands) (b : Book) (c r g mine new : ℕ) (a : Agrees (state x cs) b) (hg : g ≤ 64) (lv : x.voided < 2 ^ 64)
-    (lm : mine < 2 ^ 64) (m : (d : ℕ) → bit_at mine d ≡ emptied_at c r (get_or b.held d empty))
-    (f : new ≡ pick (eqb r 2) 0 (without (bit_and mine (2 ^ g - 1)) x.voided)) → g ≡ gapless b.held
-    → book_step b (logout c r) ≡ step (logged_out (ones (without mine (2 ^ g - 1))) (ones new)) [] (after_logout b c r g)
-unfolding logout_step
-logout-step x cs b c r g mine new a hg lv lm m f e =
-    logout-at b c r g e
-    ∙ rw (count-emptied x cs b c r g mine a hg lv lm m, count-voided x cs b c r g mine a hg lv lm m new f)
+    pub logout-meets : (x' : Window) → x'.next ≡ x.next → x'.handed ≡ x.handed → x'.held ≡ without x.held gone
+        → x'.voided ≡ without (bit_or x.voided new) gone
+        → x'.origins ≡ pick (eqb r 2) (pick (ltb c 4) (set x.origins c 0) x.origins) (each_without x.origins gone)
+        → MeetsAt (logout c r) (state x cs) (logged_out (ones gone) (ones new)) [] (state x' cs) b
+    unfolding after_logout next logout_step
+    logout-meets x' e1 e2 e3 e4 e5 =
+        met _ _ _ _ _ b (after_logout b c r g)
+        (logout-at b c r g (counts b.held x.held g (all-places (state x cs) b a) a.held run) ∙ rw (count-emptied, count-voided))
+        (record {
+          next = e1 ∙ a.next;
+          handed = e2 ∙ a.handed;
+          share = a.share;
+          size = length-left c r g b.held ∙ a.size;
+          headers_size = a.headers_size;
+          tickets_size = a.tickets_size;
+          origins_size = rw e5 (left-size x.origins (eqb r 2) c gone a.origins_size);
+          held = rw e3 (maps-left held_bit (unfold held_bit in refl) held-lt x.held
+              (λ d l. unfold Maps in a.held d ∙ sym (held-before c r (at d))) (λ d l. unfold Maps in a.held d));
+          voided = rw e4 (maps-left void_bit (unfold void_bit in refl) void-lt (bit_or x.voided new) void-in void-out);
+          origins = λ k. rw e5 (origins-left k (eqb r 2) refl);
+          in_slots = λ d. rw (slot-stays x x' d e1) (left-all (λ d p. SlotHas cs (slot_of x d) p)
+              (λ d l. slot-before cs (slot_of x d) c r (at d) (a.in_slots d))
+              (λ d l. slot-after cs (slot_of x d) c r (at d) (a.in_slots d)) d);
+        })

@@ -11,9 +11,9 @@ use window::{CONNS, Window};
 
 // Logout reasons (RFC 7143, 11.14.1): the session is closed; the connection is removed for recovery. Any other reason
 // here closes the connection, so that a reason stays its number and no call can be refused for it.
-const CLOSE_SESSION: u8 = 0;
+pub const CLOSE_SESSION: u8 = 0;
 
-const RECOVERY: u8 = 2;
+pub const RECOVERY: u8 = 2;
 
 #[derive(Clone, Copy)]
 pub struct LogoutStep {

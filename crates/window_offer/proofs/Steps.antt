@@ -1,7 +1,7 @@
--- An offer of the code against the book's: one law for each outcome of the book's step, and agreement with a command more.
-use Rattle.std.proofs.Common.{◌≡◌, ℕ, ◌-◌, ◌*◌, ◌^◌, ◌<◌, ◌≤◌, min, false, List, [], length, get_or, set, sym, refl, ap, ◌∙◌, arith, length-set, get_or-set_other, get_or-set_same, le-ltb, lt-ltb, eq-eqb, ne_eqb, le-leb}
+-- An offer of the code against the book's: a duplicate, one that is kept, and agreement with a command more.
+use Rattle.std.proofs.Common.{◌≡◌, ℕ, ◌*◌, ◌^◌, ◌<◌, false, List, [], length, get_or, set, sym, refl, ap, ◌∙◌, arith, length-set, get_or-set_other, get_or-set_same, lt-ltb}
 use native.Mathlib.Decide.{ℕ_discrete, dec_lt}
-use borrow.Author.Tests.{lt-leb}
+use borrow.Author.Tests.{tests}
 use lib.ListN.{get_or-eq_default}
 use lib.Seq.{paste, length-paste}
 use Rattle.store.specs.Slot.{in_slot}
@@ -9,11 +9,11 @@ use Rattle.store.proofs.Slots.{slot_same, slot-other}
 use Rattle.place_map.specs.Bit.{bit_at, with_bit}
 use Rattle.window.specs.declared.Window.{Window}
 use Rattle.window.specs.PlaceSlot.{slot_of}
-use Rattle.window.specs.Book.{connection, Command, Place, empty, holds, Book, next, Answer, offer, kept, duplicate, passed, beyond, step, keeping, offer_at, was_handed_out, offer_step, book_step, one-if, is_from}
-use Rattle.window.specs.Agree.{Commands, commands, state, held_bit, void_bit, origin_bit, Maps, SlotHas, Agrees, Enters, Stays, Did, ahead}
+use Rattle.window.specs.Book.{connection, Command, Place, empty, holds, Book, next, offer, kept, duplicate, step, keeping, offer_at, offer_step, book_step, one-if, is_from}
+use Rattle.window.specs.Agree.{Commands, commands, state, held_bit, void_bit, origin_bit, Maps, SlotHas, Agrees, Enters, ahead}
 use Rattle.window.proofs.PlaceSlot.{slot-fits, slot_apart, slot-stays}
 use Rattle.window.proofs.Bits.{maps-set, maps-keep}
-use Rattle.window.proofs.Steps.{met, difference, distance_is}
+use Rattle.window.proofs.Steps.{difference, distance_is}
 
 module _ (w : Window) (n t c : ℕ) (h : List ℕ) where
   abbrev pub offered : Command
@@ -23,33 +23,10 @@ module _ (w : Window) (n t c : ℕ) (h : List ℕ) where
   unfolding book_step
   offer-at b e = ap (λ (x : ℕ). offer_step b x offered) (distance_is b w n e)
 
-  -- an offer that is not kept
-  pub unkept : (cs : Commands) (a : Answer) → Stays (offer n t c h) a (state w cs) (state w cs) [] []
-      → ((b : Book) → Agrees (state w cs) b → offer_step b (difference w n) offered ≡ step a [] b)
-      → Did (offer n t c h) (state w cs) a [] (state w cs)
-  unkept cs a s f = record {
-    meets = λ b g. met _ _ _ _ _ b b (offer-at b g.next ∙ f b g) g;
-    stays = s;
-    out_size = refl;
-    out_rest = refl;
-  }
-
 module _ (b : Book) (d : ℕ) (e : Command) where
-  pub step-passed : b.share ≤ d → 2 ^ 32 - d ≤ min b.handed (2 ^ 31) → offer_step b d e ≡ step passed [] b
-  unfolding offer_step was_handed_out
-  step-passed l h = rw (le-ltb d b.share l, le-leb (2 ^ 32 - d) (min b.handed (2 ^ 31)) h)
-
-  pub step-beyond : b.share ≤ d → min b.handed (2 ^ 31) < 2 ^ 32 - d → offer_step b d e ≡ step beyond [] b
-  unfolding offer_step was_handed_out
-  step-beyond l h = rw (le-ltb d b.share l, lt-leb (2 ^ 32 - d) (min b.handed (2 ^ 31)) h)
-
   pub step-duplicate : d < b.share → held_bit (get_or b.held d empty) ≡ 1 → offer_step b d e ≡ step duplicate [] b
   unfolding offer_step held_bit offer_at
-  step-duplicate l h = rw (lt-ltb d b.share l) (go (get_or b.held d empty) h)
-    where
-      go : (p : Place) → held_bit p ≡ 1 → offer_at p b d e ≡ step duplicate [] b
-      go empty h = absurd (omega arith)
-      go (holds x) h = refl
+  step-duplicate l h = grind (arith, tests)
 
   pub step_kept : d < b.share → get_or b.held d empty ≡ empty → offer_step b d e ≡ step kept [] (keeping b d e)
   unfolding offer_step offer_at
@@ -58,16 +35,15 @@ module _ (b : Book) (d : ℕ) (e : Command) where
 slot_kept : (cs cs' : Commands) (j : ℕ) (p : Place) → in_slot cs'.headers j ≡ in_slot cs.headers j → get_or cs'.tickets j 0 ≡ get_or cs.tickets j 0
     → SlotHas cs j p → SlotHas cs' j p
 unfolding SlotHas
-slot_kept cs cs' j empty e q s = tt
-slot_kept cs cs' j (holds x) e q s = (e ∙ s.0, q ∙ s.1)
+slot_kept cs cs' j p e q s = grind arith
 
 from-other : (c cn : ℕ) → (c ≡ cn → ⊥) → one-if (is_from c (connection cn)) ≡ 0
 unfolding is_from
-from-other c cn l = rw (ne_eqb cn c (λ q. l (sym q)))
+from-other c cn l = grind (arith, tests)
 
 from-same : (cn : ℕ) → one-if (is_from cn (connection cn)) ≡ 1
 unfolding is_from
-from-same cn = rw (eq-eqb cn cn refl)
+from-same cn = grind (arith, tests)
 
 pub place-bit : (w : Window) (cs : Commands) (b : Book) (d r : ℕ) → Agrees (state w cs) b → r ≡ bit_at w.held d → held_bit (get_or b.held d empty) ≡ r
 unfolding Maps

@@ -9,6 +9,8 @@ ghost use Rattle.window.specs.Agree.{Did, commands, state, Enters, offer_answer}
 
 use window::{Offered, PLACES, WINDOW_BYTES, WINDOW_SLOTS, Window, slot_of};
 
+// A struct beside its call, as each call's answer is: a Step<A> in `window` for this, a take's and a session's would save six lines, to be read
+// in another crate.
 #[derive(Clone, Copy)]
 pub struct OfferStep {
     pub answer: Offered,
@@ -16,7 +18,14 @@ pub struct OfferStep {
 }
 
 // Offers a numbered command: kept, duplicate, passed or beyond. What is kept is its header, the first 48 bytes of the
-// PDU, with the ticket and the connection.
+// PDU, with the ticket and the connection. The connection is a number: see `window::CONNECTIONS`.
+#[tactic(auto,
+// The book's step.
+unfolding(window::specs::Book::book_step, window::specs::Book::offer_step, window::specs::Book::offer_at, window::specs::Book::was_handed_out,
+// Where a number lies.
+window::specs::Book::distance,
+// A place, by its bits and its slot.
+window::specs::Agree::Maps, window::specs::Agree::held_bit))]
 pub fn offer(
     w: Window,
     number: u32,
@@ -62,7 +71,8 @@ pub fn offer(
     }
 }
 
-// The window with a command of connection conn held at the place d.
+// The window with a command of connection conn held at the place d, both numbers as in `offer`.
+#[tactic(auto, unfolding(place_map::specs::Bit::with_bit))]
 fn entered(w: Window, d: u32, conn: u32) -> Window
     requires { (d < slots) × (conn < connections) }
     ensures { Enters w d conn result }

@@ -1,14 +1,14 @@
--- A take of the code against the book's: one law for each outcome of the book's step, and agreement after a hand-out.
-use Rattle.std.proofs.Common.{◌≡◌, ℕ, suc, ◌+◌, ◌/◌, ◌%◌, ◌^◌, min, List, ◌++◌, length, get_or, drop, sym, ap, ◌∙◌, arith, length-append, length-drop}
+-- A take of the code against the book's: a void hand-out, that of a command, and agreement after it.
+use Rattle.std.proofs.Common.{◌≡◌, ℕ, suc, ◌+◌, ◌/◌, ◌%◌, ◌^◌, min, List, ◌++◌, length, get_or, drop, sym, ◌∙◌, arith, length-append, length-drop}
 use Rattle.store.specs.Slot.{in_slot}
 use Rattle.place_map.proofs.Bits.{bit-zero}
 use Rattle.window.specs.declared.Window.{Window}
 use Rattle.window.specs.PlaceSlot.{slot_of}
-use Rattle.window.specs.Book.{Origin, Place, empty, holds, Book, next, take, nothing, command, void, step, handed_on, take_step, first_place, book_step}
+use Rattle.window.specs.Book.{Origin, Place, empty, holds, Book, next, take, command, void, step, handed_on, take_step, first_place, book_step}
 use Rattle.window.specs.Agree.{Commands, state, held_bit, void_bit, origin_bit, Maps, SlotHas, Agrees, OriginAt}
 use Rattle.window.proofs.PlaceSlot.{slot_next}
 use Rattle.window.proofs.Bits.{maps-shift, shifted}
-use Rattle.window.proofs.Steps.{held_none, true-of-one, false-of-none}
+use Rattle.window.proofs.Steps.{false-of-none}
 
 pub shift-agrees : (w w' : Window) (cs : Commands) (b : Book) → Agrees (state w cs) b → w'.next ≡ (w.next + 1) % 2 ^ 32
     → w'.handed ≡ min (w.handed + 1) (2 ^ 31) → w'.held ≡ w.held / 2 → w'.voided ≡ w.voided / 2
@@ -36,21 +36,10 @@ first-void : (w : Window) (cs : Commands) (b : Book) → Agrees (state w cs) b �
 unfolding first_place Maps
 first-void w cs b g = sym (bit-zero w.voided) ∙ g.voided 0
 
-pub take-nothing : (w : Window) (cs : Commands) (b : Book) (o : List ℕ) → Agrees (state w cs) b → w.held % 2 ≡ 0 → book_step b (take o) ≡ step nothing o b
-unfolding book_step
-take-nothing w cs b o g e = go (first_place b) (sym (first_bit w cs b g) ∙ e)
-  where
-    go : (p : Place) → held_bit p ≡ 0 → take_step p b o ≡ step nothing o b
-    go p z = unfold take_step in ap (λ (x : Place). take_step x b o) (held_none p z)
-
 pub take-void : (w : Window) (cs : Commands) (b : Book) (o : List ℕ) → Agrees (state w cs) b → w.voided % 2 ≡ 1
     → book_step b (take o) ≡ step (void w.next) o (handed_on b)
 unfolding book_step take_step void_bit
-take-void w cs b o g v = go (first_place b) (sym (first-void w cs b g) ∙ v)
-  where
-    go : (p : Place) → void_bit p ≡ 1 → take_step p b o ≡ step (void w.next) o (handed_on b)
-    go empty e = absurd (omega arith)
-    go (holds x) e = rw (true-of-one x.void e, g.next)
+take-void w cs b o g v = grind (arith, first-void w cs b g, g.next)
 
 pub take-command : (w : Window) (cs : Commands) (b : Book) (a : Origin) (o : List ℕ) → Agrees (state w cs) b → (w.held % 2 ≡ 0 → ⊥)
     → (w.voided % 2 ≡ 1 → ⊥) → OriginAt a (get_or b.held 0 empty)

@@ -11,13 +11,20 @@ use window::{CONNS, Taken, WINDOW_BYTES, WINDOW_SLOTS, Window, origin_at, slot_o
 // How many hand-outs are remembered: 2^31.
 const REMEMBERED: u32 = 2147483648;
 
+// No Step<A>: see `window_offer::OfferStep`.
 #[derive(Clone, Copy)]
 pub struct TakeStep {
     pub answer: Taken,
     pub window: Window,
 }
 
-// Takes the next command: R if it is held, its header into the first 48 bytes of out, or void; else nothing.
+// Takes the next command: R if it is held, its header into the first 48 bytes of out, or void; else nothing. Out is a slice: see
+// `store::put`.
+#[tactic(auto,
+// The book's step.
+unfolding(window::specs::Book::book_step, window::specs::Book::take_step, window::specs::Book::first_place,
+// A place, by its bits and its slot.
+window::specs::Agree::Maps, window::specs::Agree::held_bit, window::specs::Agree::void_bit, place_map::specs::Bit::bit_at))]
 pub fn take(
     w: Window,
     headers: &[u8; WINDOW_BYTES],

@@ -1,19 +1,21 @@
+-- Four bytes are the number's that they make.
+use mathlib.Core.Path.{◌≡◌, refl}
+use mathlib.Core.List.{[], ◌∷◌}
+use Prim.Native.Nat.{ℕ, ◌%◌, ◌<◌}
 use native.Mathlib.Omega.{arith}
-use mathlib.Core.Path.{◌≡◌, ◌∙◌, ap}
+use borrow.Author.Rules.{rules}
+use Rattle.std.proofs.lemmas.Nat.{be_bytes_4}
 use Rattle.field.specs.Field.{bytes_of}
-use mathlib.Core.List.{List, ◌++◌}
-use Prim.Native.Nat.{ℕ, ◌+◌, ◌*◌, ◌<◌}
-use Rattle.field.proofs.Laws.{bytes-join}
+use Rattle.field.proofs.Laws.{bytes-high_first}
 use Rattle.field.proofs.four.Goals as goal
 
--- one byte after the other, from the highest
-joined : (a b c d : ℕ) → b < 256 → c < 256 → d < 256 → bytes_of 4 (a * 0x100_0000 + b * 0x1_0000 + c * 0x100 + d) ≡ bytes_of 1 a ++ (bytes_of 1 b ++ (bytes_of 1 c ++ bytes_of 1 d))
-joined a b c d hb hc hd =
-    let e : a * 0x100_0000 + b * 0x1_0000 + c * 0x100 + d ≡ a * 0x100_0000 + (b * 0x1_0000 + (c * 0x100 + d)) = omega arith in
-    ap (bytes_of 4) e
-    ∙ bytes-join 1 3 a (b * 0x1_0000 + (c * 0x100 + d)) (omega arith)
-    ∙ ap (λ (r : List ℕ). bytes_of 1 a ++ r) (bytes-join 1 2 b (c * 0x100 + d) (omega arith)
-    ∙ ap (λ (r : List ℕ). bytes_of 1 b ++ r) (bytes-join 1 1 c d (omega arith)))
+one : (a : ℕ) → a < 256 → bytes_of 1 a ≡ a ∷ []
+unfolding bytes_of
+one a h = let e : a % 256 ≡ a = omega arith in rw e refl
 
 pub returns : goal.returns
-returns c = joined c.args.a c.args.b c.args.c c.args.d (omega arith) (omega arith) (omega arith)
+returns c =
+    let x = c.args in
+    let n = c.from_be_bytes.result in
+    rw (one x.a (omega arith), one x.b (omega arith), one x.c (omega arith), one x.d (omega arith), ← bytes-high_first 4 n)
+    (be_bytes_4 (x.a ∷ x.b ∷ x.c ∷ x.d ∷ []) n refl (search rules) c.from_be_bytes.ensures)

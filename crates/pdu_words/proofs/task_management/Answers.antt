@@ -1,12 +1,9 @@
-use borrow.Author.Tests.{not-true, not-false}
+-- The attribute proves it too, but then the edit of this function is only given up on at a limit, and not seen to be wrong.
 use Rattle.request_header.specs.Request.{pdu_of, request_of}
 use Rattle.request_header.proofs.FieldRules.{and-true}
 use Rattle.request_words.specs.RequestWords.{common_words, own_words, opcode_word}
-use Rattle.request_words.proofs.Reading.{kind-read, kind-refused, be-one}
+use Rattle.request_words.proofs.Reading.{kind-read, be-one}
 use Rattle.pdu_words.proofs.task_management.Goals as goal
-
-pub returns-then-not-task_management_ok : goal.returns-then-not-task_management_ok
-returns-then-not-task_management_ok c = kind-refused _ _ _ _ _ _ c.task_management_ok.ensures c.if-not-task_management_ok.true
 
 pub returns : goal.returns
 unfolding common_words own_words opcode_word pdu_of request_of

@@ -1,11 +1,8 @@
-use borrow.Author.Tests.{not-true, not-false}
+-- The attribute proves it too, but then edits of this function may only be given up on at a limit, and not seen to be wrong.
 use Rattle.request_header.specs.Request.{pdu_of, request_of}
 use Rattle.request_words.specs.RequestWords.{common_words, own_words, opcode_word}
-use Rattle.request_words.proofs.Reading.{kind-read, kind-refused, be-one, and-false}
+use Rattle.request_words.proofs.Reading.{kind-read, be-one, and-false}
 use Rattle.request_words.proofs.snack.Goals as goal
-
-pub returns-then-not-snack_ok : goal.returns-then-not-snack_ok
-returns-then-not-snack_ok c m = kind-refused _ _ _ _ _ _ (c.snack_ok.ensures m) c.if-not-snack_ok.true
 
 pub returns : goal.returns
 unfolding common_words own_words opcode_word pdu_of request_of

@@ -4,6 +4,7 @@ use Rattle.session_send.specs.Answer.{send_answer}
 use Rattle.call_words.specs.Session.{nothing, by_send}
 use Rattle.call_words.proofs.Unchanged.{refused-said}
 use Rattle.send_words.proofs.send_known.Goals as goal
+use Rattle.send_words.proofs.send_known.Goals.{in-Some, in_default}
 
 pub returns-in-Err : goal.returns-in-Err
 returns-in-Err c k tags ends =
@@ -12,29 +13,28 @@ returns-in-Err c k tags ends =
     let e = c.in-Err.is in
     refused-said (rw (load, e) at (call.ensures k tags ends)) c.pack_refused.ensures
 
-pub returns-in-Ok-NotStored : goal.returns-in-Ok-NotStored
-returns-in-Ok-NotStored c k tags ends =
+pub returns-after-sent : goal.returns-after-sent
+returns-after-sent c k tags ends =
     let load = c.load-s.ensures in
     let call = c.send in
-    let e = c.in-Ok-NotStored.is ∙ ap Ok c.in-Ok-NotStored.field-0-is in
-    record {
-      answer = send_answer call.result;
-      did = rw (← load, e) (rw e at (call.ensures k tags ends));
-      words = rw e c.pack.ensures;
-      writes = nothing;
-      stays = rw e tt;
-    }
-
-pub returns-in-Ok-Stored : goal.returns-in-Ok-Stored
-returns-in-Ok-Stored c k tags ends =
-    let load = c.load-s.ensures in
-    let call = c.send in
-    let e = c.in-Ok-Stored.is ∙ ap Ok c.in-Ok-Stored.field-0-is in
-    let kept = c.store_ledger.ensures in
-    record {
-      answer = send_answer call.result;
-      did = rw (kept.1, ← load, e) (rw e at (call.ensures k tags ends));
-      words = rw e c.pack-in-Ok-Stored.ensures;
-      writes = rw kept.0 (by_send _);
-      stays = rw e tt;
-    }
+    elim c.match-sent.branch [
+      | in-Some w ↦
+          let e = c.in-Ok.is in
+          let kept = w.store_ledger.ensures in
+          record {
+            answer = send_answer call.result;
+            did = rw (w.n-is, kept.1, ← load, e) (rw (e, w.in-Some.is) at (call.ensures k tags ends));
+            words = rw e c.pack.ensures;
+            writes = rw (w.n-is, kept.0) (by_send _);
+            stays = rw e tt;
+          }
+      | in_default w ↦
+          let e = c.in-Ok.is in
+          record {
+            answer = send_answer call.result;
+            did = rw (w.n-is, ← load, e) (rw (e, w.in_default.is) at (call.ensures k tags ends));
+            words = rw e c.pack.ensures;
+            writes = rw w.n-is nothing;
+            stays = rw e tt;
+          }
+    ]

@@ -36,7 +36,13 @@ returns c =
         book_size = refl;
         statuses_size = search rules;
         tickets_size = search rules;
-        conns = each _ _ _ _ (record { is_open = refl; limits = refl; longest = refl; ledger = o.ensures.agrees 0 _ (omega arith) (search rules) (search rules) }) refl;
+        conns = each _ _ _ _ (record {
+          is_open = refl;
+          limits = refl;
+          longest = refl;
+          ledger = o.ensures.agrees 0 _ (omega arith) (search rules)
+              (search rules);
+        }) refl;
       };
       zero_headers = w.ensures.zero_headers;
       zero_tickets = w.ensures.zero_tickets;

@@ -1,5 +1,4 @@
 -- `session_commands::take` meets its contract: BUFFER, else the window's step.
-use Prim.Native.Nat.{◌-◌}
 use mathlib.Core.Path.{refl, ◌∙◌}
 use Rattle.book.specs.Book.{outputs}
 use Rattle.session_state.proofs.Steps.{refusing, lend-short, lend-long, by-window}

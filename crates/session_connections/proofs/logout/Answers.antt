@@ -1,25 +1,10 @@
 -- `session_connections::logout` meets its contract: the window's step, and the connections that are left.
 use mathlib.Core.Path.{refl, sym, ap, ◌∙◌}
-use Rattle.std.proofs.lemmas.Result.{err_from_is_err_and}
 use Rattle.window.specs.Book as W
 use Rattle.book.specs.Book.{no_outputs, from_window, step, conns_left, logged_out}
-use Rattle.session_state.proofs.Steps.{met, as_lent, refusing, reach-refused, open_at, reach-open}
-use Rattle.session_connections.proofs.Outcomes.{logout-eq, closing-leaves, left-agrees, logout-field, logout-done}
+use Rattle.session_state.proofs.Steps.{met, as_lent, open_at, reach-open}
+use Rattle.session_connections.proofs.Outcomes.{logout-eq, closing-leaves, left-agrees, logout-done}
 use Rattle.session_connections.proofs.logout.Goals as goal
-
-pub returns-in_err-reach : goal.returns-in_err-reach
-returns-in_err-reach c k ss =
-    let a = c.args in
-    let p = err_from_is_err_and c.from_residual.result c.from_residual.ensures.1 in
-    rw (p.1, p.2)
-    (refusing _ _ _ no_outputs refl (λ b g. logout-eq b a.conn a.reason _ ∙ reach-refused _ b a.conn no_outputs _ _ g c.in_err-reach.ensures))
-
-pub returns-then-reason-gt2 : goal.returns-then-reason-gt2
-returns-then-reason-gt2 c k ss =
-    let a = c.args in
-    refusing _ _ 3 no_outputs refl (λ b g.
-    let v = open_at _ b a.conn _ g c.in_ok-reach.ensures in
-    logout-eq b a.conn a.reason _ ∙ reach-open b a.conn no_outputs _ v.book v.near v.is ∙ logout-field b a.conn a.reason c.if-reason-gt2.true)
 
 pub returns : goal.returns
 unfolding logged_out
@@ -31,9 +16,14 @@ returns c k ss =
           let v = open_at _ b a.conn _ g c.in_ok-reach.ensures in
           let m = w.meets b.window g.window in
           met _ _ _ _ _ b _
-          (logout-eq b a.conn a.reason _ ∙ reach-open b a.conn no_outputs _ v.book v.near v.is ∙ logout-done b a.conn a.reason c.if-reason-gt2.false
-          ∙ ap (λ (y : W.Answer). step (from_window y) no_outputs (record { given = b.given; window = (W.book_step b.window (W.logout a.conn a.reason)).book; conns = conns_left b.conns a.conn a.reason })) (sym m.answer))
-          (left-agrees _ b a.conn a.reason _ _ _ g v.near (closing-leaves a.s.conns a.conn a.reason c.closed_by.result v.near g.conns_size c.closed_by.ensures) m.agrees);
+          (logout-eq b a.conn a.reason _ ∙ reach-open b a.conn no_outputs _ v.book v.near v.is ∙ logout-done b a.conn a.reason c.if-reason-gt-RECOVERY.false
+          ∙ ap (λ (y : W.Answer). step (from_window y) no_outputs (record {
+            given = b.given;
+            window = (W.book_step b.window (W.logout a.conn a.reason)).book;
+            conns = conns_left b.conns a.conn a.reason;
+          })) (sym m.answer))
+          (left-agrees _ b a.conn a.reason _ _ _ g v.near
+          (closing-leaves a.s.conns a.conn a.reason c.closed_by.result v.near g.conns_size c.closed_by.ensures) m.agrees);
       stays = tt;
       keeps = as_lent refl;
     }

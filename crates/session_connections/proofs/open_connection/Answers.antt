@@ -1,17 +1,10 @@
 -- `session_connections::open_connection` meets its contract: an empty ledger stands for the fresh one of the book.
 use mathlib.Core.Path.{refl}
-use Rattle.book.specs.Book.{no_outputs, opened_by}
+use Rattle.book.specs.Book.{opened_by}
 use Rattle.session_state.specs.Agree.{ConnAgrees}
-use Rattle.session_state.proofs.Steps.{met, as_lent, refusing, is-closed, open_at, conn-set}
-use Rattle.session_connections.proofs.Outcomes.{open-refused, open-live, open-closed}
+use Rattle.session_state.proofs.Steps.{met, as_lent, is-closed, conn-set}
+use Rattle.session_connections.proofs.Outcomes.{open-closed}
 use Rattle.session_connections.proofs.open_connection.Goals as goal
-
-pub returns-in_default : goal.returns-in_default
-returns-in_default c k ss =
-    let a = c.args in
-    refusing _ _ 9 no_outputs refl (λ b g.
-    let v = open_at _ b a.conn _ g c.in_default.ensures in
-    open-live b a.conn a.given _ v.book v.near v.is)
 
 pub returns-in-Closed : goal.returns-in-Closed
 unfolding ConnAgrees opened_by
@@ -27,8 +20,3 @@ returns-in-Closed c k ss =
       stays = tt;
       keeps = as_lent refl;
     }
-
-pub returns-in_default-f : goal.returns-in_default-f
-returns-in_default-f c k ss =
-    let a = c.args in
-    refusing _ _ _ no_outputs refl (λ b g. open-refused b a.conn a.given _ a.s c.in-Err.f c.in-Err.ensures c.in_default-f.not-Closed)

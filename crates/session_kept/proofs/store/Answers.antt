@@ -1,3 +1,4 @@
+-- Proved alone by `kept` and both definitions opened, too; but then the edits of this crate are only given up on at a limit, and not seen to be wrong.
 use mathlib.Core.Path.{◌≡◌}
 use lib.ListN.{length}
 use Rattle.session_state.specs.After.{conn_at}

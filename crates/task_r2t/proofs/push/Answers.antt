@@ -2,6 +2,7 @@
 use Prim.Native.Nat.{◌+◌, ◌%◌}
 use mathlib.Core.Path.{◌≡◌}
 use native.Mathlib.Omega.{arith}
+use borrow.Author.Rules.{rules}
 use native.Mathlib.Numerals.{add-one}
 use Rattle.task.proofs.Ring.{open-push}
 use Rattle.task_r2t.specs.R2T.{Opened}
@@ -14,4 +15,4 @@ returns c =
     let t = a.t in
     let place : (t.first_open % 8 + t.open_count) % 8 ≡ (t.first_open + t.open_count) % 8 = omega arith in
     rw (place, add-one t.open_count)
-    (open-push a.tags.now a.ends.now t.first_open t.open_count a.tag _ c.requires.1.0 c.requires.1.1 c.requires.0.few)
+    (open-push a.tags.now a.ends.now t.first_open t.open_count a.tag _ (search rules) (search rules) c.requires.few)

@@ -1,17 +1,16 @@
 -- `task_r2t::r2t` meets its contract.
 use mathlib.Core.Path.{sym, ◌∙◌}
 use mathlib.Core.List.{[]}
-use borrow.Author.Rules.{rules}
 use Rattle.task_r2t.specs.R2T.{R2TSent}
-use Rattle.task_r2t.proofs.Laws.{r2t-fits}
+use Rattle.task_r2t.proofs.Laws.{code-fits}
 use Rattle.task_r2t.proofs.r2t.Goals as goal
 
 pub r2t_sent-sent-requires : goal.r2t_sent-sent-requires
-r2t_sent-sent-requires c = r2t-fits _ _ _ _ (c.r2t_ok.ensures [] []) c.if-r2t_ok.true
+r2t_sent-sent-requires c = code-fits _ _ _ _ (c.r2t_ok.ensures [] []) c.if-r2t_ok.true
 
 pub push-requires : goal.push-requires
 push-requires c =
-    (r2t-fits _ _ _ _ (c.r2t_ok.ensures [] []) c.if-r2t_ok.true, (search rules, search rules))
+    code-fits _ _ _ _ (c.r2t_ok.ensures [] []) c.if-r2t_ok.true
 
 pub returns-then-r2t_ok : goal.returns-then-r2t_ok
 unfolding R2TSent

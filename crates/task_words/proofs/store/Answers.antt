@@ -1,6 +1,7 @@
 use mathlib.Core.Path.{refl}
-use Rattle.task_words.proofs.Kept.{as_word, kept}
+use Rattle.words.proofs.Flags.{as_word}
+use Rattle.task_words.proofs.Kept.{kept}
 use Rattle.task_words.proofs.store.Goals as goal
 
 pub returns : goal.returns
-returns c = rw as_word (refl, refl, kept c.args.t)
+returns c = rw (c.from.ensures, as_word) (refl, refl, kept c.args.t)

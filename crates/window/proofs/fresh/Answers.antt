@@ -2,7 +2,7 @@
 use Rattle.std.proofs.Common.{◌≡◌, ℕ, zero, suc, [], ◌∷◌, get_or, replicate, refl, arith, rules}
 use Rattle.window.specs.Book.{fresh_book, next, empty}
 use Rattle.window.specs.Agree.{Maps, held_bit, void_bit, origin_bit, SlotHas}
-use Rattle.window.proofs.Bits.{maps_none, all-empty}
+use Rattle.window.proofs.Bits.{maps_none, alike}
 use Rattle.window.proofs.fresh.Goals as goal
 
 no_origin : (c : ℕ) → Maps (get_or (0 ∷ 0 ∷ 0 ∷ 0 ∷ []) c 0) (origin_bit c) (replicate 64 empty)
@@ -30,7 +30,7 @@ returns c = record {
     held = maps_none held_bit 64 (unfold held_bit in refl);
     voided = maps_none void_bit 64 (unfold void_bit in refl);
     origins = no_origin;
-    in_slots = λ d. rw (all-empty 64 d) (unfold SlotHas in tt);
+    in_slots = λ d. rw (alike empty 64 d) (unfold SlotHas in tt);
   };
   zero_headers = search rules;
   zero_tickets = search rules;

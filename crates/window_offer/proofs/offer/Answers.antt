@@ -8,7 +8,7 @@ use Rattle.place_map.proofs.Bits.{bit-lt}
 use Rattle.window.specs.Book.{empty}
 use Rattle.window.specs.Agree.{commands, Puts}
 use Rattle.window.proofs.Steps.{met, held_none, difference}
-use Rattle.window_offer.proofs.Steps.{ahead-is, offer-at, unkept, step-passed, step-beyond, step-duplicate, step_kept, place-bit, keep-agrees}
+use Rattle.window_offer.proofs.Steps.{ahead-is, offer-at, step-duplicate, step_kept, place-bit, keep-agrees}
 use Rattle.window_offer.proofs.offer.Goals as goal
 
 paste-front : (d s : List ℕ) (at : ℕ) → paste d at s 48 ≡ paste d at (ListN.take 48 s) 48
@@ -17,17 +17,18 @@ paste-front d s at = ap (λ (r : List ℕ). ListN.take at d ++ r ++ ListN.drop (
 zero_bit : (n d r : ℕ) → r ≡ bit_at n d → (r ≡ 1 → ⊥) → r ≡ 0
 zero_bit n d r e h = omega (arith, bit-lt n d)
 
-pub returns-then-d-w : goal.returns-then-d-w
-returns-then-d-w c = unkept _ _ _ _ _ _ _ refl (λ b g. step-passed b _ _ (omega (arith, g.share)) (omega (arith, g.handed)))
-
-pub returns-then-d-ge-PLACES : goal.returns-then-d-ge-PLACES
-returns-then-d-ge-PLACES c = unkept _ _ _ _ _ _ _ refl (λ b g. step-beyond b _ _ (omega (arith, g.share)) (omega (arith, g.handed)))
-
 pub returns-then-bit-eq1 : goal.returns-then-bit-eq1
 returns-then-bit-eq1 c =
     let a = c.args in
-    unkept _ _ _ _ _ _ _ refl (λ b g. step-duplicate b _ _ (omega (arith, g.share))
-    (place-bit a.w (commands a.headers.now a.tickets.now) b _ 1 g (sym c.if-bit-eq1.true ∙ c.bit.ensures)))
+    record {
+      meets = λ b g.
+          met _ _ _ _ _ b b
+          (offer-at a.w a.number a.ticket a.conn _ b g.next
+          ∙ step-duplicate b _ _ (omega (arith, g.share)) (place-bit a.w _ b _ 1 g (sym c.if-bit-eq1.true ∙ c.bit.ensures))) g;
+      stays = refl;
+      out_size = refl;
+      out_rest = refl;
+    }
 
 pub returns : goal.returns
 unfolding Puts

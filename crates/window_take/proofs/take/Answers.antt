@@ -2,23 +2,12 @@
 use Rattle.std.proofs.Common.{◌≡◌, ◌*◌, ◌≤◌, ◌++◌, length, drop, refl, arith, length-drop}
 use lib.Seq.{length-paste, drop-paste}
 use Rattle.store.specs.Slot.{in_slot}
-use Rattle.window.specs.Book.{nothing, handed_on}
+use Rattle.window.specs.Book.{handed_on}
 use Rattle.window.specs.PlaceSlot.{slot_of}
 use Rattle.window.specs.Agree.{commands}
 use Rattle.window.proofs.Steps.{met}
-use Rattle.window_take.proofs.Steps.{take-nothing, take-void, take-command}
+use Rattle.window_take.proofs.Steps.{take-void, take-command}
 use Rattle.window_take.proofs.take.Goals as goal
-
-pub returns-then-w-eq0 : goal.returns-then-w-eq0
-returns-then-w-eq0 c =
-    let a = c.args in
-    record {
-      meets = λ b g. met _ _ nothing _ _ b b
-          (take-nothing a.w (commands a.headers.now a.tickets.now) b a.out.now g c.if-w-eq0.true) g;
-      stays = (refl, refl);
-      out_size = refl;
-      out_rest = refl;
-    }
 
 pub returns-then-w-eq1 : goal.returns-then-w-eq1
 returns-then-w-eq1 c =

@@ -5,7 +5,6 @@ use mathlib.Core.Path.{ap₂, subst}
 use lib.ListN.{length-drop}
 use Rattle.text.proofs.Laws.{rest_part, past, here, appended-rest}
 use Rattle.text_block.specs.Block.{formed, pairs, rest_of, empty}
-use Rattle.keys.specs.Promises.{settled_of}
 use Rattle.login_types.specs.Agree.{keys_of}
 use Rattle.login_book.specs.Block.{judge, stopped}
 use Rattle.login_block.specs.Promises.{walked}
@@ -20,19 +19,16 @@ returns-then-left-eq0 c =
     let f : formed 64 c.args.block.now ≡ false = sym i.form ∙ formed-long l.rest.now l.left (sym c.loop-rest-test.ensures) e in
     judged-as _ _ _ _ _ _ _ _ _ _ l.count (sym (walk-none _ _ _ _ _ _ l.left e) ∙ i.walked) (omega (arith, i.room)) i.behind (sym (past _ _ _ _ f refl)) zero-le
 
-pub overflow_add-rest : goal.overflow_add-rest
-overflow_add-rest c = omega (arith, c.in-Ok.ensures.1.inside, c.loop-rest.invariant.within)
-
 pub loop-rest-preserved : goal.loop-rest-preserved
 loop-rest-preserved c =
     let l = c.loop-rest in
     let i = l.invariant in
-    let a = c.args in
+    let x = c.args.by.now in
     let b = l.rest.now in
     let m = l.left - 1 in
-    let f = c.in-Ok.ensures.1 in
+    let f = c.in-Ok.ensures in
     let j = f.judgement in
-    let s = keys_of (settled_of l.seen l.values) in
+    let s = keys_of l.settled in
     let t = take l.count l.out in
     let h : empty b ≡ false = sym c.loop-rest-test.ensures in
     let n : l.left ≡ suc m = omega (arith, c.if-left-eq0.false) in
@@ -40,13 +36,11 @@ loop-rest-preserved c =
     let d : take (length b - e) (drop e b) ≡ drop e b = rest_part e b in
     let r : take (length b - e) (drop e b) ≡ rest_of b = d ∙ rest-is b c.in-Ok.f.end f.ended in
     record {
-      within = subst (λ (z : List ℕ). length z ≤ length a.block.now) (sym d) (omega (arith, length-drop e b, i.within));
+      within = subst (λ (z : List ℕ). length z ≤ length c.args.block.now) (sym d) (omega (arith, length-drop e b, i.within));
       room = omega (arith, f.few, i.room, n);
-      table = c.judge_first.auto.values ∙ i.table;
-      known = c.in-Ok.ensures.0;
-      form = form-on a.stage a.leading a.ours.now s t b j f.said h m f.settles f.text.text r ∙ rw n at i.form;
-      judged = judge-on a.stage a.leading a.ours.now s t b j f.said h m f.settles f.text.text r ∙ rw n at i.judged;
-      walked = walk-on a.stage a.leading a.ours.now s t b j f.said h m f.settles f.text.text r ∙ rw n at i.walked;
+      form = form-on x.stage x.leading x.ours.now s t b j f.said h m f.settles f.text.text r ∙ rw n at i.form;
+      judged = judge-on x.stage x.leading x.ours.now s t b j f.said h m f.settles f.text.text r ∙ rw n at i.judged;
+      walked = walk-on x.stage x.leading x.ours.now s t b j f.said h m f.settles f.text.text r ∙ rw n at i.walked;
       behind = appended-rest _ f.text i.behind;
     }
 
@@ -54,14 +48,14 @@ pub returns-in-Err : goal.returns-in-Err
 returns-in-Err c =
     let l = c.loop-rest in
     let i = l.invariant in
-    let a = c.args in
+    let x = c.args.by.now in
     let b = l.rest.now in
-    let f = c.in-Err.ensures.1 in
-    let s = keys_of (settled_of l.seen l.values) in
+    let f = c.in-Err.ensures in
+    let s = keys_of l.settled in
     let t = take l.count l.out in
     let n : l.left ≡ suc (l.left - 1) = omega (arith, c.if-left-eq0.false) in
-    let v = walk-refused a.stage a.leading a.ours.now s t b c.in-Err.status f.said l.left in
-    let e = rw (← n) at (status-refused a.stage a.leading a.ours.now s t b c.in-Err.status f.said (sym c.loop-rest-test.ensures) (l.left - 1)) in
+    let v = walk-refused x.stage x.leading x.ours.now s t b c.in-Err.status f.said l.left in
+    let e = rw (← n) at (status-refused x.stage x.leading x.ours.now s t b c.in-Err.status f.said (sym c.loop-rest-test.ensures) (l.left - 1)) in
     judged-as _ _ _ _ _ _ _ _ _ _ l.count (ap₂ walked f.keys (ap (take l.count) f.bytes) ∙ sym v ∙ i.walked) (omega (arith, i.room, ap length f.bytes))
     (ap (drop l.count) f.bytes ∙ i.behind) (ap stopped c.pair_status.ensures ∙ rw (i.form, i.judged) at e) zero-le
 
