@@ -27,7 +27,9 @@ struct Pair {
 fn pair_in(rest: &[u8]) -> Option<Pair>
     ensures { PairOf rest.now result }
 {
-    let Span { eq, end } = cut_pair(rest)?;
+    let Ok(Span { eq, end }) = cut_pair(rest) else {
+        return None;
+    };
     let name = &rest[..eq];
     let key = key_of(name);
     if key.is_some() || name_good(name) {
@@ -77,10 +79,14 @@ pub struct Judged {
     pub verdict: Result<usize, u16>,
 }
 
-// The status of a block with a refused pair: a breach of its form anywhere comes first.
+// The status of a block with a refused pair: a breach of its form anywhere comes first. It is 0x0200 too, so where the pair's is, the form isn't
+// looked at: it may be what refused the pair.
 fn pair_status(block: &[u8], status: u16) -> u16
     ensures { result ≡ pick (formed 64 block.now) status 0x0200 }
 {
+    if status == 0x0200 {
+        return 0x0200;
+    }
     if well_formed(block) { status } else { 0x0200 }
 }
 

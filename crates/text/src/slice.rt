@@ -26,12 +26,13 @@ pub fn lists(s: &[u8], w: &[u8]) -> bool
 
 // Puts b after the first `at` bytes of an output, and gives the new count. The count stands apart from the output here and in all that
 // answer into one: a struct that holds a lent slice would have to say in each contract that it is still the slice that was lent.
-#[tactic(auto, using(std::proofs::lemmas::Slice::overwrites))]
+// Byte by byte: `copy_from_slice` between two areas that C lends would have the archive ask for C's memmove.
 pub fn append(out: &mut [u8], at: usize, b: &[u8]) -> usize
     requires { at + length b.now ≤ length out.old }
     ensures { Appended out.old at b.now out.new result }
 {
-    let end = at + b.len();
-    out[at..end].copy_from_slice(b);
-    end
+    for (i, byte) in b.iter().enumerate() {
+        out[at + i] = *byte;
+    }
+    at + b.len()
 }

@@ -73,6 +73,15 @@ module _ (s : List ℕ) (w : whole_first s ≡ true) where
       let h : length (before 0 (after 61 s)) < length (after 61 s) = ltb-true _ _ (sym (has-before 0 (after 61 s)) ∙ z) in
       omega (arith, h, length-after 61 s)
 
+-- where any first pair ends: with the text where there is no =
+pub bare-ends : (s : List ℕ) → has 61 s ≡ false → end_in s ≡ length s
+unfolding end_in
+bare-ends s h = rw h
+
+pub cut-ends : (s : List ℕ) → has 61 s ≡ true → end_in s ≡ length (name_in s) + 1 + length (value_in s)
+unfolding end_in
+cut-ends s h = rw h
+
 -- After a good pair the loop goes on with what follows it.
 pub formed_on : (n e : ℕ) (s : List ℕ) → 0 < length s → good_first s ≡ true → e ≡ end_in s
     → formed n (take (length s - (e + 1)) (drop (e + 1) s)) ≡ formed (n + 1) s
@@ -121,7 +130,7 @@ module _ (s : List ℕ) {eq : ℕ} (n : eq ≡ length (name_in s)) where
       let m : end - (eq + 1) ≡ length (before 0 (after 61 s)) = omega (arith, n, v) in
       rw (m, n, drop-before 61 s) (take-before 0 (after 61 s))
 
-pub ruleset cut = (tail_is, has-before, whole-ends, whole-inside)
+pub ruleset cut = (tail_is, has-before, whole-ends, whole-inside, bare-ends, cut-ends)
 
 pub ruleset named_first = (good-first, cut-name)
 

@@ -55,41 +55,43 @@ pub fn name_good(s: &[u8]) -> bool
     }
 }
 
-// Where the first pair of a text ends its name and its value: before the first =, and before the first zero byte after that.
-// Places and no slices: `SpanOf` speaks of places, and an answer begins with name and = together.
+// Where the first pair of a text ends its name and its value: before the first =, and before the first zero byte after that; with the text
+// where there is none. Places and no slices: `SpanOf` speaks of places, and an answer begins with name and = together.
 #[derive(Clone, Copy)]
 pub struct Span {
     pub eq: usize,
     pub end: usize,
 }
 
-// The first pair of a text, whatever its name is: none where no = is there, the value is too long, or no zero byte follows it.
+// The first pair of a text, whatever its name is: an Err, with where it ends all the same, where no = is there, the value is too long, or no
+// zero byte follows it.
 #[tactic(auto, using(crate::proofs::Pairs::cut))]
-pub fn cut_pair(s: &[u8]) -> Option<Span>
+pub fn cut_pair(s: &[u8]) -> Result<Span, Span>
     ensures { SpanOf s.now (whole_first s.now) result }
 {
     let eq = find(s, b'=');
     if eq == s.len() {
-        return None;
+        return Err(Span { eq, end: eq });
     }
     let tail = &s[eq + 1..];
     let n = find(tail, 0);
-    if MAX_VALUE < n || n == tail.len() {
-        return None;
-    }
-    Some(Span {
+    let p = Span {
         eq,
         end: eq + 1 + n,
-    })
+    };
+    if MAX_VALUE < n || n == tail.len() {
+        return Err(p);
+    }
+    Ok(p)
 }
 
-// The first pair, if its form is good.
+// The same of the whole form, the name's too.
 #[tactic(auto, using(crate::proofs::Pairs::named_first))]
-fn first_pair(s: &[u8]) -> Option<Span>
+fn first_pair(s: &[u8]) -> Result<Span, Span>
     ensures { SpanOf s.now (good_first s.now) result }
 {
     let p = cut_pair(s)?;
-    if name_good(&s[..p.eq]) { Some(p) } else { None }
+    if name_good(&s[..p.eq]) { Ok(p) } else { Err(p) }
 }
 
 // The form of a whole block.
@@ -102,7 +104,7 @@ pub fn well_formed(s: &[u8]) -> bool
         if rest.is_empty() {
             return true;
         }
-        let Some(p) = first_pair(rest) else {
+        let Ok(p) = first_pair(rest) else {
             return false;
         };
         rest = &rest[p.end + 1..];

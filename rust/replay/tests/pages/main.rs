@@ -26,7 +26,7 @@ fn checks(name: &str) -> Vec<Check> {
         "docs/SCRIPT.md" => checks.extend([missing as Check, example_amiss, long_lines]),
         "docs/DECISIONS.md" => checks.push(missing),
         // They tell of what was.
-        "docs/CHANGES.md" | "docs/PORT.md" | "docs/DESIGN-PASS.md" => {}
+        "docs/CHANGES.md" | "docs/PORT.md" | "docs/DESIGN-PASS.md" | "docs/LOOK-BACK.md" => {}
         _ => panic!("{name} has no checks"),
     }
     checks
